@@ -1,0 +1,10 @@
+pub mod Numbers
+pub mod Format
+pub mod Range
+pub mod Run
+pub mod Whole
+pub mod Layout
+pub mod Fields
+pub mod Reading
+pub mod Steps
+pub mod Cases
