@@ -1,0 +1,88 @@
+// What the words of a command line ask for.
+ghost use Rattle.cli.specs.Lines.{Parsed};
+ghost use Rattle.cli.specs.Words.{Names};
+use std::fmt;
+
+pub const USAGE: &str = "\
+usage: nivgarost check FILE...
+       nivgarost help
+
+check  reads each file as a task table and prints a line for it, and below a table
+       that is read its nodes and arcs. A table that is refused is told by its number,
+       the offset of the record at fault, and what was expected there.
+help   prints this text.
+
+A refused table is an answer, and leaves the status 0. The status is 1 after a wrong
+argument or a file that cannot be read.
+
+example:
+  $ nivgarost check lamp.table
+  lamp.table: read: period 20, deadline 10, 1 node, 0 arcs
+    node  0  plain          top             time     6
+";
+
+#[derive(Clone, Copy, Drop)]
+pub(crate) enum Verb {
+    Help,
+    Check,
+}
+
+// The command that a word names.
+pub(crate) fn named_by(word: &str) -> Option<Verb>
+    ensures { λ r. ⌜ Names (now (word .entry)) r ⌝ }
+{
+    match word {
+        "help" | "--help" | "-h" => Some(Verb::Help),
+        "check" => Some(Verb::Check),
+        _ => None,
+    }
+}
+
+// A command, with what it works on.
+#[derive(Clone, Copy, Drop)]
+pub enum Command<'a> {
+    Help,
+    Check { files: &'a [String] },
+}
+
+// Words that are no command.
+#[derive(Clone, Copy, Drop)]
+pub enum Misuse<'a> {
+    NoCommand,
+    Unknown { word: &'a str },
+    NoFile,
+}
+
+// What the words after the program's own name ask for.
+pub fn parse(words: &[String]) -> Result<Command<'_>, Misuse<'_>>
+    ensures { λ r. ⌜ Parsed (now (words .entry)) r ⌝ }
+{
+    let [first, files @ ..] = words else {
+        return Err(Misuse::NoCommand);
+    };
+    match named_by(first.as_str()) {
+        Some(Verb::Help) => Ok(Command::Help),
+        Some(Verb::Check) if files.is_empty() => Err(Misuse::NoFile),
+        Some(Verb::Check) => Ok(Command::Check { files }),
+        None => Err(Misuse::Unknown {
+            word: first.as_str(),
+        }),
+    }
+}
+
+pub impl fmt::Display for Misuse<'_> as MisuseDisplay {
+    fn fmt<W: fmt::Write>(&self, f: &mut fmt::Formatter<W>) -> fmt::Result {
+        match self {
+            Misuse::NoCommand => write!(f, "{USAGE}\nnivgarost: no command is given"),
+            Misuse::Unknown { word } => {
+                write!(
+                    f,
+                    "nivgarost: unknown command '{word}'; try 'nivgarost help'"
+                )
+            }
+            Misuse::NoFile => f.write_str(
+                "nivgarost: check needs a file, as in 'nivgarost check lamp.table'",
+            ),
+        }
+    }
+}

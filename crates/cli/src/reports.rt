@@ -1,0 +1,163 @@
+// What a table holds, or why it is refused, as lines of text.
+use crate::sentences::Sentence;
+use crate::sentences::SentenceDisplay;
+use crate::wording::plural;
+use std::fmt;
+use table::fault::Fault;
+use table::records::Arc;
+use table::records::Node;
+use table::records::Region;
+use table::records::Role;
+use table::records::Table;
+
+// What was read of the file `name`.
+#[derive(Drop)]
+pub struct Report<'a> {
+    pub name: &'a str,
+    pub outcome: Result<Table, Fault>,
+}
+
+pub impl fmt::Display for Report<'_> as ReportDisplay {
+    fn fmt<W: fmt::Write>(&self, f: &mut fmt::Formatter<W>) -> fmt::Result {
+        let name = self.name;
+        match &self.outcome {
+            Ok(table) => {
+                writeln!(f, "{name}: read: {}", Summary(table))?;
+                write_nodes(f, table.nodes.as_slice())?;
+                write_arcs(f, table.nodes.as_slice(), table.arcs.as_slice())
+            }
+            Err(fault) => {
+                let number = fault.number();
+                let offset = fault.added();
+                writeln!(
+                    f,
+                    "{name}: refused {number} at offset {offset}: {}",
+                    Sentence(*fault)
+                )
+            }
+        }
+    }
+}
+
+#[derive(Drop)]
+struct Summary<'a>(&'a Table);
+
+impl fmt::Display for Summary<'_> as SummaryDisplay {
+    fn fmt<W: fmt::Write>(&self, f: &mut fmt::Formatter<W>) -> fmt::Result {
+        let timing = self.0.timing;
+        let nodes = self.0.nodes.len;
+        let arcs = self.0.arcs.len;
+        write!(
+            f,
+            "period {}, deadline {}, ",
+            timing.period, timing.deadline
+        )?;
+        write!(
+            f,
+            "{nodes} node{}, {arcs} arc{}",
+            plural(nodes),
+            plural(arcs)
+        )
+    }
+}
+
+fn write_nodes<W: fmt::Write>(f: &mut fmt::Formatter<W>, nodes: &[Node]) -> fmt::Result {
+    for (number, node) in nodes.iter().enumerate() {
+        let role = Part(node.role);
+        let place = Place(node.region);
+        writeln!(
+            f,
+            "  node {number:>2}  {role:<13}  {place:<14}  time {:>5}",
+            node.time
+        )?;
+    }
+    Ok(())
+}
+
+// It fills thirteen columns where it is written with that width.
+#[derive(Drop)]
+struct Part(Role);
+
+impl fmt::Display for Part as PartDisplay {
+    fn fmt<W: fmt::Write>(&self, f: &mut fmt::Formatter<W>) -> fmt::Result {
+        match self.0 {
+            Role::Plain => f.pad("plain"),
+            Role::Opening => f.pad("opening"),
+            Role::Closing { mate } => write!(f, "closing of {mate:<2}"),
+        }
+    }
+}
+
+// It fills fourteen columns where it is written with that width.
+#[derive(Drop)]
+struct Place(Region);
+
+impl fmt::Display for Place as PlaceDisplay {
+    fn fmt<W: fmt::Write>(&self, f: &mut fmt::Formatter<W>) -> fmt::Result {
+        match self.0 {
+            Region::Top => f.pad("top"),
+            Region::Branch { home, branch } => write!(f, "branch {branch} of {home:<2}"),
+        }
+    }
+}
+
+// A line for each node that arcs leave.
+fn write_arcs<W: fmt::Write>(
+    f: &mut fmt::Formatter<W>,
+    nodes: &[Node],
+    arcs: &[Arc],
+) -> fmt::Result {
+    let mut first = true;
+    for from in 0..nodes.len() {
+        if leaves(arcs, from) {
+            writeln!(
+                f,
+                "  {:<4} {from:>2} -> {}",
+                label(first),
+                Targets { arcs, from }
+            )?;
+            first = false;
+        }
+    }
+    Ok(())
+}
+
+// What the lines of the arcs begin with.
+fn label(first: bool) -> &'static str {
+    if first { "arcs" } else { "" }
+}
+
+// What stands before a target.
+fn separator(first: bool) -> &'static str {
+    if first { "" } else { ", " }
+}
+
+// Whether some arc leaves the node.
+fn leaves(arcs: &[Arc], from: usize) -> bool {
+    for arc in arcs {
+        if usize::from(arc.from) == from {
+            return true;
+        }
+    }
+    false
+}
+
+// The nodes that the arcs of one node lead to.
+#[derive(Drop)]
+struct Targets<'a> {
+    arcs: &'a [Arc],
+    from: usize,
+}
+
+impl fmt::Display for Targets<'_> as TargetsDisplay {
+    fn fmt<W: fmt::Write>(&self, f: &mut fmt::Formatter<W>) -> fmt::Result {
+        let mut first = true;
+        for arc in self.arcs {
+            if usize::from(arc.from) == self.from {
+                write!(f, "{}{}", separator(first), arc.to)?;
+                first = false;
+            }
+        }
+        Ok(())
+    }
+}
