@@ -7,9 +7,9 @@ pub const USAGE: &str = "\
 usage: nivgarost check FILE...
        nivgarost help
 
-check  reads each file as a task table and prints a line for it, and below a table
-       that is read its nodes and arcs. A table that is refused is told by its number,
-       the offset of the record at fault, and what was expected there.
+check  reads each file as a task table and prints a line for it, and below a task that
+       is taken its nodes and arcs. A table that is refused is told by its number, the
+       offset of the record at fault or the rule that is broken, and what is expected.
 help   prints this text.
 
 A refused table is an answer, and leaves the status 0. The status is 1 after a wrong
@@ -17,7 +17,7 @@ argument or a file that cannot be read.
 
 example:
   $ nivgarost check lamp.table
-  lamp.table: read: period 20, deadline 10, 1 node, 0 arcs
+  lamp.table: taken: period 20, deadline 10, 1 node, 0 arcs
     node  0  plain          top             time     6
 ";
 

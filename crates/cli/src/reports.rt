@@ -3,50 +3,64 @@ use crate::sentences::Sentence;
 use crate::sentences::SentenceDisplay;
 use crate::wording::plural;
 use std::fmt;
-use table::fault::Fault;
 use table::records::Arc;
 use table::records::Node;
 use table::records::Region;
 use table::records::Role;
-use table::records::Table;
+use task::Refusal;
+use task::Task;
 
-// What was read of the file `name`.
-#[derive(Drop)]
+// What a file of this name and these bytes says of a task.
+#[derive(Clone, Copy, Drop)]
 pub struct Report<'a> {
     pub name: &'a str,
-    pub outcome: Result<Table, Fault>,
+    pub bytes: &'a [u8],
 }
 
 pub impl fmt::Display for Report<'_> as ReportDisplay {
     fn fmt<W: fmt::Write>(&self, f: &mut fmt::Formatter<W>) -> fmt::Result {
-        let name = self.name;
-        match &self.outcome {
-            Ok(table) => {
-                writeln!(f, "{name}: read: {}", Summary(table))?;
-                write_nodes(f, table.nodes.as_slice())?;
-                write_arcs(f, table.nodes.as_slice(), table.arcs.as_slice())
+        write!(f, "{}: ", self.name)?;
+        match Task::read(self.bytes) {
+            Ok(task) => {
+                writeln!(f, "taken: {}", Summary(&task))?;
+                write_nodes(f, task.nodes())?;
+                write_arcs(f, task.nodes(), task.arcs())
             }
-            Err(fault) => {
-                let number = fault.number();
-                let offset = fault.added();
-                writeln!(
-                    f,
-                    "{name}: refused {number} at offset {offset}: {}",
-                    Sentence(*fault)
-                )
+            Err(refusal) => {
+                let number = refusal.number();
+                let added = refusal.added();
+                let place = Place(refusal);
+                let sentence = Sentence {
+                    refusal,
+                    bytes: self.bytes,
+                };
+                writeln!(f, "refused {number} {place} {added}: {sentence}")
             }
         }
     }
 }
 
+// What a refusal adds to its number.
 #[derive(Drop)]
-struct Summary<'a>(&'a Table);
+struct Place(Refusal);
+
+impl fmt::Display for Place as PlaceDisplay {
+    fn fmt<W: fmt::Write>(&self, f: &mut fmt::Formatter<W>) -> fmt::Result {
+        match self.0 {
+            Refusal::Unsound(_) => f.write_str("at offset"),
+            Refusal::Misshapen(_) => f.write_str("by rule"),
+        }
+    }
+}
+
+#[derive(Drop)]
+struct Summary<'a>(&'a Task);
 
 impl fmt::Display for Summary<'_> as SummaryDisplay {
     fn fmt<W: fmt::Write>(&self, f: &mut fmt::Formatter<W>) -> fmt::Result {
-        let timing = self.0.timing;
-        let nodes = self.0.nodes.len;
-        let arcs = self.0.arcs.len;
+        let timing = self.0.timing();
+        let nodes = self.0.nodes().len();
+        let arcs = self.0.arcs().len();
         write!(
             f,
             "period {}, deadline {}, ",
@@ -64,10 +78,10 @@ impl fmt::Display for Summary<'_> as SummaryDisplay {
 fn write_nodes<W: fmt::Write>(f: &mut fmt::Formatter<W>, nodes: &[Node]) -> fmt::Result {
     for (number, node) in nodes.iter().enumerate() {
         let role = Part(node.role);
-        let place = Place(node.region);
+        let lies = Lies(node.region);
         writeln!(
             f,
-            "  node {number:>2}  {role:<13}  {place:<14}  time {:>5}",
+            "  node {number:>2}  {role:<13}  {lies:<14}  time {:>5}",
             node.time
         )?;
     }
@@ -90,9 +104,9 @@ impl fmt::Display for Part as PartDisplay {
 
 // It fills fourteen columns where it is written with that width.
 #[derive(Drop)]
-struct Place(Region);
+struct Lies(Region);
 
-impl fmt::Display for Place as PlaceDisplay {
+impl fmt::Display for Lies as LiesDisplay {
     fn fmt<W: fmt::Write>(&self, f: &mut fmt::Formatter<W>) -> fmt::Result {
         match self.0 {
             Region::Top => f.pad("top"),

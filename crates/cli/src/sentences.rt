@@ -10,16 +10,131 @@ use std::fmt;
 use table::fault::Fault;
 use table::fault::LayoutFault;
 use table::fault::Misfit;
+use table::records::Arc;
+use table::records::Node;
+use table::records::Region;
+use table::records::Role;
+use table::records::Table;
+use task::Refusal;
+use task::rules::Broken;
+use task::rules::Rule;
 
-// It says what is wrong, and what is expected in its place.
+// Why the table in these bytes is refused: what is wrong, and what is expected in its place.
 #[derive(Clone, Copy, Drop)]
-pub struct Sentence(pub Fault);
+pub struct Sentence<'a> {
+    pub refusal: Refusal,
+    pub bytes: &'a [u8],
+}
 
-pub impl fmt::Display for Sentence as SentenceDisplay {
+pub impl fmt::Display for Sentence<'_> as SentenceDisplay {
+    fn fmt<W: fmt::Write>(&self, f: &mut fmt::Formatter<W>) -> fmt::Result {
+        match self.refusal {
+            Refusal::Unsound(Fault::Layout { fault, .. }) => write!(f, "{}", OfLayout(fault)),
+            Refusal::Unsound(Fault::Range { misfit, .. }) => write!(f, "{}", OfRange(misfit)),
+            Refusal::Misshapen(broken) => match table::read(self.bytes) {
+                Ok(table) => write_broken(f, &table, broken),
+                Err(_) => Ok(()),
+            },
+        }
+    }
+}
+
+// What the rule wants, and the node or arc of the table that is first to break it.
+fn write_broken<W: fmt::Write>(
+    f: &mut fmt::Formatter<W>,
+    table: &Table,
+    broken: Broken,
+) -> fmt::Result {
+    let at = broken.at;
+    match broken.rule {
+        Rule::HomesAreOpenings => write!(
+            f,
+            "the home of node {at} must be an opening{}",
+            Home(table.nodes.as_slice().get(at).copied())
+        ),
+        Rule::MatesPairUp => write!(
+            f,
+            "{}",
+            Mates {
+                at,
+                node: table.nodes.as_slice().get(at).copied()
+            }
+        ),
+        Rule::BranchesCountUp => write!(
+            f,
+            "the branches of opening {at} must be numbered from 0, and none skipped"
+        ),
+        Rule::ArcsAreLawful => write!(
+            f,
+            "arc {at}{} must join two units of one region, lead from an opening into its branch, or lead out of a branch to its closing, and be given once",
+            Ends(table.arcs.as_slice().get(at).copied())
+        ),
+        Rule::OneFirstOneLast => write!(
+            f,
+            "the region of node {at} must have just one first unit and just one last"
+        ),
+        Rule::BlocksAreWired => write!(
+            f,
+            "an opening must lead to the first unit of each of its branches, the last unit of each must lead to the closing, and no other may; node {at} breaks this"
+        ),
+    }
+}
+
+// The home of a node that should be an opening.
+#[derive(Clone, Copy, Drop)]
+struct Home(Option<Node>);
+
+impl fmt::Display for Home as HomeDisplay {
     fn fmt<W: fmt::Write>(&self, f: &mut fmt::Formatter<W>) -> fmt::Result {
         match self.0 {
-            Fault::Layout { fault, .. } => write!(f, "{}", OfLayout(fault)),
-            Fault::Range { misfit, .. } => write!(f, "{}", OfRange(misfit)),
+            Some(
+                Node {
+                    region: Region::Branch { home, .. },
+                    ..
+                },
+            ) => write!(f, ", and node {home} is none"),
+            _ => Ok(()),
+        }
+    }
+}
+
+// What a closing or an opening lacks.
+#[derive(Clone, Copy, Drop)]
+struct Mates {
+    at: usize,
+    node: Option<Node>,
+}
+
+impl fmt::Display for Mates as MatesDisplay {
+    fn fmt<W: fmt::Write>(&self, f: &mut fmt::Formatter<W>) -> fmt::Result {
+        let at = self.at;
+        match self.node {
+            Some(
+                Node {
+                    role: Role::Closing { mate },
+                    ..
+                },
+            ) => write!(
+                f,
+                "the mate of closing {at} must be an opening, and node {mate} is none"
+            ),
+            _ => write!(
+                f,
+                "opening {at} must be the mate of just one closing, in its own region"
+            ),
+        }
+    }
+}
+
+// The ends of an arc.
+#[derive(Clone, Copy, Drop)]
+struct Ends(Option<Arc>);
+
+impl fmt::Display for Ends as EndsDisplay {
+    fn fmt<W: fmt::Write>(&self, f: &mut fmt::Formatter<W>) -> fmt::Result {
+        match self.0 {
+            Some(arc) => write!(f, " from {} to {}", arc.from, arc.to),
+            None => Ok(()),
         }
     }
 }

@@ -1,0 +1,12 @@
+pub mod Answering
+pub mod Branched
+pub mod Ended
+pub mod Follows
+pub mod Kinded
+pub mod Lawful
+pub mod Mated
+pub mod Recovered
+pub mod Regions
+pub mod Sequence
+pub mod Stable
+pub mod Wires
