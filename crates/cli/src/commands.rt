@@ -7,9 +7,12 @@ pub const USAGE: &str = "\
 usage: nivgarost check FILE...
        nivgarost help
 
-check  reads each file as a task table and prints a line for it, and below a task that
-       is taken its nodes and arcs. A table that is refused is told by its number, the
-       offset of the record at fault or the rule that is broken, and what is expected.
+check  reads each file as a task table and prints a line for it. L is the greatest
+       length of a path and W the greatest total, over all ways that the branches can go.
+       Below stand the share of one core that the task needs at worst, a longest path,
+       the branches with the greatest total, and the nodes and arcs. A table that is
+       refused is told by its number, the offset of the record at fault or the rule that
+       is broken, and what is expected.
 help   prints this text.
 
 A refused table is an answer, and leaves the status 0. The status is 1 after a wrong
@@ -17,7 +20,10 @@ argument or a file that cannot be read.
 
 example:
   $ nivgarost check lamp.table
-  lamp.table: taken: period 20, deadline 10, 1 node, 0 arcs
+  lamp.table: taken: period 20, deadline 10, 1 node, 0 arcs, L 6, W 6
+    use          30.0% of one core
+    longest path 0
+    worst total  no branches
     node  0  plain          top             time     6
 ";
 

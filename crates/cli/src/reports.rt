@@ -1,4 +1,10 @@
 // What a table holds, or why it is refused, as lines of text.
+use crate::figures::LongestPath;
+use crate::figures::LongestPathDisplay;
+use crate::figures::Share;
+use crate::figures::ShareDisplay;
+use crate::figures::WorstBranches;
+use crate::figures::WorstBranchesDisplay;
 use crate::sentences::Sentence;
 use crate::sentences::SentenceDisplay;
 use crate::wording::plural;
@@ -9,6 +15,8 @@ use table::records::Region;
 use table::records::Role;
 use task::Refusal;
 use task::Task;
+use workload::measures::length_and_total;
+use workload::measures::worst_settling;
 
 // What a file of this name and these bytes says of a task.
 #[derive(Clone, Copy, Drop)]
@@ -23,6 +31,7 @@ pub impl fmt::Display for Report<'_> as ReportDisplay {
         match Task::read(self.bytes) {
             Ok(task) => {
                 writeln!(f, "taken: {}", Summary(&task))?;
+                write_figures(f, &task)?;
                 write_nodes(f, task.nodes())?;
                 write_arcs(f, task.nodes(), task.arcs())
             }
@@ -68,11 +77,23 @@ impl fmt::Display for Summary<'_> as SummaryDisplay {
         )?;
         write!(
             f,
-            "{nodes} node{}, {arcs} arc{}",
+            "{nodes} node{}, {arcs} arc{}, ",
             plural(nodes),
             plural(arcs)
-        )
+        )?;
+        let (length, total) = length_and_total(self.0);
+        write!(f, "L {length}, W {total}")
     }
+}
+
+fn write_figures<W: fmt::Write>(f: &mut fmt::Formatter<W>, task: &Task) -> fmt::Result {
+    let share = Share {
+        total: worst_settling(task).total,
+        period: task.timing().period,
+    };
+    writeln!(f, "  use          {share} of one core")?;
+    writeln!(f, "  longest path {}", LongestPath(task))?;
+    writeln!(f, "  worst total  {}", WorstBranches(task))
 }
 
 fn write_nodes<W: fmt::Write>(f: &mut fmt::Formatter<W>, nodes: &[Node]) -> fmt::Result {

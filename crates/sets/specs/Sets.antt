@@ -2,6 +2,7 @@
 use mathlib.Core.Path.{_≡_}
 use mathlib.Core.Logic.{_⊎_}
 use Prim.Native.Nat.{ℕ, suc, _/_, _%_, _^_, _<_}
+use lib.Bits.{bitOr}
 use lib.ListN.{getD}
 use Rattle.sets.specs.declared.arc_set.ArcSet.{ArcSet}
 use Rattle.sets.specs.declared.bit_set.BitSet.{BitSet}
@@ -41,6 +42,11 @@ pub record Without (s : BitSet) (n : ℕ) (r : BitSet) : Type 0 where
   pub gone : Has r n → ⊥
   pub keeps : (j : ℕ) → Has s j → (j ≡ n) ⊎ Has r j
   pub no-more : (j : ℕ) → Has r j → Has s j
+
+-- what is in either set
+infixl 30 _∪_
+abbrev pub _∪_ : BitSet → BitSet → BitSet
+s ∪ t = record { bits = bitOr (s .bits) (t .bits) }
 
 -- s has 0 and skips no number
 pub record Runs-from-zero (s : BitSet) : Type 0 where

@@ -1,7 +1,8 @@
 // Sets of numbers below 64: nodes, or branches.
-ghost use Prim.Native.Nat.{ℕ, _<_};
+ghost use mathlib.Core.Path.{_≡_};
+ghost use Prim.Native.Nat.{ℕ, _<_, _≤_};
 ghost use Rattle.std.specs.declared.option.Option.the-variants.{Some, None};
-ghost use Rattle.sets.specs.Sets.{Just-one, Has, With, Only, Least, Without};
+ghost use Rattle.sets.specs.Sets.{Just-one, Has, With, Only, Least, Without, Marks, _∪_};
 ghost use Rattle.sets.specs.Tests.{Says};
 
 // Bit n is set where the number n is in the set.
@@ -12,6 +13,18 @@ pub struct BitSet {
 
 impl BitSet {
     pub const EMPTY: BitSet = BitSet { bits: 0 };
+
+    // The numbers below n.
+    pub fn below(n: usize) -> BitSet
+        requires { ⌜ n ≤ 64 ⌝ }
+        ensures { λ r. ⌜ Marks (λ k. k < n) r ⌝ }
+    {
+        let mut set = BitSet::EMPTY;
+        for k in 0..n {
+            set = set.with(k);
+        }
+        set
+    }
 
     pub fn has(self, n: usize) -> bool
         ensures { λ r. ⌜ Says r (Has self n) ⌝ }
@@ -58,6 +71,15 @@ impl BitSet {
     {
         BitSet {
             bits: self.bits ^ 1 << n,
+        }
+    }
+
+    // What is in either set.
+    pub fn union(self, other: BitSet) -> BitSet
+        ensures { λ r. ⌜ r ≡ self ∪ other ⌝ }
+    {
+        BitSet {
+            bits: self.bits | other.bits,
         }
     }
 }

@@ -1,0 +1,4 @@
+pub mod Algebra
+pub mod Paths
+pub mod Walks
+pub mod Instances
