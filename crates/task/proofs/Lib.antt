@@ -1,7 +1,10 @@
 pub mod Answering
+pub mod Apart
 pub mod Branched
+pub mod Computed
 pub mod Ended
 pub mod Follows
+pub mod Judged
 pub mod Kinded
 pub mod Lawful
 pub mod Mated

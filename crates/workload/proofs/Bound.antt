@@ -11,7 +11,7 @@ use Rattle.table.specs.declared.records.Region.the-variants.{Top, Branch}
 use Rattle.task.specs.Graph.{region, Is-node}
 use Rattle.workload.specs.Measures.{sum-below}
 use Rattle.workload.specs.Nested.{Nested}
-use Rattle.workload.proofs.Apart.{top-not-branch, branch-not-top, same-home}
+use Rattle.task.proofs.Apart.{top-not-branch, branch-not-top, same-home}
 use Rattle.workload.proofs.Sums.{sum-below-le, sum-below-raised, term-below-sum, best-of, best-bounds, best-raised}
 use Rattle.workload.proofs.Weigh.{region-or-other, weight-from, branch-weight, gain, weight-own, weight-other, weight-end}
 

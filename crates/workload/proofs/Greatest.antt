@@ -15,7 +15,7 @@ use Rattle.task.specs.Graph.{region, time, Is-node}
 use Rattle.workload.specs.Measures.{sum-below, taken-time, total}
 use Rattle.workload.specs.Nested.{Nested}
 use Rattle.workload.specs.Settling.{takes, Takes}
-use Rattle.workload.proofs.Apart.{false-not-true, top-not-branch, branch-not-top, one-branch, same-home}
+use Rattle.task.proofs.Apart.{false-not-true, top-not-branch, branch-not-top, one-branch, same-home}
 use Rattle.workload.proofs.Sums.{sum-below-same, sum-below-none, sum-below-one, best-of, best-bounds}
 use Rattle.workload.proofs.Takes.{takes-top, takes-inside, takes-home, takes-picked}
 use Rattle.workload.proofs.Weigh.{weight-from, branch-weight, gain, weight-own, weight-other, weight-end, weighed-region}

@@ -14,7 +14,7 @@ use Rattle.task.specs.Graph.{role, region, Is-node, Home-of, Closing-of, Last, 
 use Rattle.task.specs.Shape.{Shaped}
 use Rattle.task.proofs.Follows.{home-opens, one-closing, closing-beside, exit-there}
 use Rattle.workload.specs.Nested.{Homes-smaller}
-use Rattle.workload.proofs.Apart.{plain-not-opening, closing-not-opening}
+use Rattle.task.proofs.Apart.{plain-not-opening, closing-not-opening}
 
 -- o is among the homes of a node: its home, its home's home, and so on
 pub data Inside (ns : List Node) (o : ℕ) : ℕ → Type 0 where

@@ -8,8 +8,8 @@ use Rattle.table.specs.declared.records.Node.{Node}
 use Rattle.task.specs.Graph.{time, Is-node, Joined}
 use Rattle.paths.specs.Paths.{Path, end, step, first, Each, Chain}
 use Rattle.paths.specs.Instances.{path-ticks}
-use Rattle.workload.proofs.Check.{t-each-arc}
-use Rattle.workload.proofs.Tests.{Test, t-like, t-and, t-le, t-all}
+use Rattle.task.proofs.Judged.{t-each-arc}
+use Rattle.task.proofs.Computed.{Test, t-like, t-and, t-le, t-all}
 
 pub record Levels (ns : List Node) (arcs : List Arc) (level : ℕ → ℕ) (most : ℕ) : Type 0 where
   pub alone : (v : ℕ) → Is-node ns v → time ns v ≤ level v

@@ -1,6 +1,4 @@
-pub mod Apart
 pub mod Bound
-pub mod Check
 pub mod Greatest
 pub mod Inside
 pub mod Levels
@@ -14,6 +12,5 @@ pub mod Stages
 pub mod Sums
 pub mod Takes
 pub mod Tasks
-pub mod Tests
 pub mod Weigh
 pub mod Worked

@@ -12,7 +12,7 @@ use Rattle.table.specs.declared.records.Region.{Region}
 use Rattle.table.specs.declared.records.Region.the-variants.{Top, Branch}
 use Rattle.task.specs.Graph.{region, Is-node}
 use Rattle.workload.specs.Nested.{Homes-smaller}
-use Rattle.workload.proofs.Apart.{false-not-true}
+use Rattle.task.proofs.Apart.{false-not-true}
 use Rattle.workload.specs.Settling.{takes-region, takes-within, takes, Takes}
 
 and-left : (a b : Bool) → (a && b) ≡ true → a ≡ true

@@ -16,7 +16,7 @@ use Rattle.table.specs.declared.records.Region.{Region}
 use Rattle.table.specs.declared.records.Region.the-variants.{Top, Branch}
 use Rattle.table.specs.Whole.{no-node}
 use Rattle.task.specs.Graph.{region, time, Is-node, In-region}
-use Rattle.workload.proofs.Apart.{top-not-branch, branch-not-top, one-branch, same-home, same-branch}
+use Rattle.task.proofs.Apart.{top-not-branch, branch-not-top, one-branch, same-home, same-branch}
 use Rattle.workload.proofs.Sums.{best-of}
 
 abbrev pub same-region : Region → Region → Bool

@@ -12,12 +12,12 @@ use Rattle.task.proofs.Mated.{opening-is-node}
 use Rattle.workload.specs.Example.{example, example-arcs, Example-stands}
 use Rattle.workload.specs.Measures.{Is-longest-path, Is-greatest-total, total}
 use Rattle.workload.specs.Settling.{Settling, takes}
-use Rattle.workload.proofs.Check.{t-has-branch, t-joined, t-shaped, ranged-by}
+use Rattle.task.proofs.Judged.{t-has-branch, t-joined, t-shaped, ranged-by}
 use Rattle.workload.proofs.Greatest.{total-below}
 use Rattle.workload.proofs.Levels.{t-levels, length-below}
 use Rattle.workload.proofs.Nesting.{tasks-nest}
 use Rattle.workload.proofs.Paths.{longest-path-is-length}
-use Rattle.workload.proofs.Tests.{holds, t-implies, t-opening, t-all}
+use Rattle.task.proofs.Computed.{holds, t-implies, t-opening, t-all}
 
 ranged : Ranged example example-arcs
 ranged = ranged-by example example-arcs refl

@@ -10,9 +10,9 @@ use Rattle.table.specs.declared.records.Node.{Node}
 use Rattle.table.specs.declared.records.Region.{Region}
 use Rattle.table.specs.declared.records.Region.the-variants.{Branch}
 use Rattle.table.specs.declared.records.Role.the-variants.{Opening, Closing}
 use Rattle.task.specs.Graph.{role, region, time, from, to, Is-node, Home-of, In-region, Has-branch, Closing-of, Joined, Begins-unit, Ends-unit, Inner, Entry, Exit, First, Last, Ranged}
 use Rattle.task.specs.Shape.{Home-opens, Pairs-up, Counts-up, Lawful-arc, Has-ends, Wired, Shaped}
-use Rattle.workload.proofs.Tests.{Test, t-like, t-and, t-or, t-not, t-implies, t-eq, t-lt, t-le, t-all, t-some, t-just-one, t-region, t-branch, t-home, t-opening, t-closing, t-mate, no-test, holds}
+use Rattle.task.proofs.Computed.{Test, t-like, t-and, t-or, t-not, t-implies, t-eq, t-lt, t-le, t-all, t-some, t-just-one, t-region, t-branch, t-home, t-opening, t-closing, t-mate, no-test, holds}
 
 module _ (ns : List Node) where
   abbrev t-in-region : (r : Region) (v : ℕ) → Test (In-region ns r v)

@@ -13,7 +13,7 @@ use Rattle.table.specs.declared.records.Region.the-variants.{Top, Branch}
 use Rattle.table.specs.declared.records.Role.{Role}
 use Rattle.table.specs.declared.records.Role.the-variants.{Plain, Opening, Closing}
 use Rattle.sets.specs.Sets.{Just-one}
-use Rattle.workload.proofs.Apart.{false-not-true, top-not-branch, branch-not-top, one-branch, same-home, same-branch, plain-not-opening, plain-not-closing, opening-not-closing, closing-not-opening, one-closing, same-mate}
+use Rattle.task.proofs.Apart.{false-not-true, top-not-branch, branch-not-top, one-branch, same-home, same-branch, plain-not-opening, plain-not-closing, opening-not-closing, closing-not-opening, one-closing, same-mate}
 
 pub record Test (P : Type 0) : Type 0 where
   pub answer : Bool
