@@ -1,0 +1,14 @@
+pub mod Rounding
+pub mod Sums
+pub mod Sizes
+pub mod Sides
+pub mod Rising
+pub mod Written
+pub mod Untouched
+pub mod Kept
+pub mod Pending
+pub mod Steps
+pub mod Enough
+pub mod Same
+pub mod Climb
+pub mod Cases

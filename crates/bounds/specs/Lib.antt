@@ -1,0 +1,3 @@
+pub mod Equation
+pub mod Steps
+pub mod Cases
