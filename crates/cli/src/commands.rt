@@ -1,10 +1,11 @@
 // What the words of a command line ask for.
-ghost use Rattle.cli.specs.Lines.{Parsed};
+ghost use Rattle.cli.specs.Lines.{One-file, Parsed};
 ghost use Rattle.cli.specs.Words.{Names};
 use std::fmt;
 
 pub const USAGE: &str = "\
 usage: nivgarost check FILE...
+       nivgarost plan FILE
        nivgarost help
 
 check  reads each file as a task table and prints a line for it. L is the greatest
@@ -13,10 +14,14 @@ check  reads each file as a task table and prints a line for it. L is the greate
        the branches with the greatest total, and the nodes and arcs. A table that is
        refused is told by its number, the offset of the record at fault or the rule that
        is broken, and what is expected.
+plan   reads a plan file, in which cores, an order and tasks are written as text, and
+       prints the tasks with their figures and the least bounds that keep every deadline,
+       or that there are none. Slack is what a bound leaves of its deadline.
 help   prints this text.
 
-A refused table is an answer, and leaves the status 0. The status is 1 after a wrong
-argument or a file that cannot be read.
+A refused table and a refused plan are answers, and leave the status 0. The status is 1
+after a wrong argument, a file that cannot be read, a plan file with a mistake in it, or a
+plan with a table that is refused.
 
 example:
   $ nivgarost check lamp.table
@@ -31,6 +36,7 @@ example:
 pub(crate) enum Verb {
     Help,
     Check,
+    Plan,
 }
 
 // The command that a word names.
@@ -40,6 +46,7 @@ pub(crate) fn named_by(word: &str) -> Option<Verb>
     match word {
         "help" | "--help" | "-h" => Some(Verb::Help),
         "check" => Some(Verb::Check),
+        "plan" => Some(Verb::Plan),
         _ => None,
     }
 }
@@ -49,6 +56,7 @@ pub(crate) fn named_by(word: &str) -> Option<Verb>
 pub enum Command<'a> {
     Help,
     Check { files: &'a [String] },
+    Plan { file: &'a str },
 }
 
 // Words that are no command.
@@ -57,6 +65,7 @@ pub enum Misuse<'a> {
     NoCommand,
     Unknown { word: &'a str },
     NoFile,
+    NotOneFile,
 }
 
 // What the words after the program's own name ask for.
@@ -70,9 +79,22 @@ pub fn parse(words: &[String]) -> Result<Command<'_>, Misuse<'_>>
         Some(Verb::Help) => Ok(Command::Help),
         Some(Verb::Check) if files.is_empty() => Err(Misuse::NoFile),
         Some(Verb::Check) => Ok(Command::Check { files }),
+        Some(Verb::Plan) => one_file(files),
         None => Err(Misuse::Unknown {
             word: first.as_str(),
         }),
+    }
+}
+
+// A plan is one file.
+fn one_file(files: &[String]) -> Result<Command<'_>, Misuse<'_>>
+    ensures { λ r. ⌜ One-file (now (files .entry)) r ⌝ }
+{
+    match files {
+        [file] => Ok(Command::Plan {
+            file: file.as_str(),
+        }),
+        _ => Err(Misuse::NotOneFile),
     }
 }
 
@@ -86,6 +108,9 @@ pub impl fmt::Display for Misuse<'_> as MisuseDisplay {
                     "nivgarost: unknown command '{word}'; try 'nivgarost help'"
                 )
             }
+            Misuse::NotOneFile => f.write_str(
+                "nivgarost: plan needs one file, as in 'nivgarost plan examples/two.plan'",
+            ),
             Misuse::NoFile => f.write_str(
                 "nivgarost: check needs a file, as in 'nivgarost check lamp.table'",
             ),

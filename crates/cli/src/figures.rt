@@ -14,10 +14,16 @@ pub struct Share {
     pub period: u32,
 }
 
+impl Share {
+    // In tenths of a percent.
+    pub(crate) fn tenths(&self) -> u64 {
+        self.total.saturating_mul(1000) / u64::from(self.period).max(1)
+    }
+}
+
 pub impl fmt::Display for Share as ShareDisplay {
     fn fmt<W: fmt::Write>(&self, f: &mut fmt::Formatter<W>) -> fmt::Result {
-        let period = u64::from(self.period).max(1);
-        let tenths = self.total.saturating_mul(1000) / period;
+        let tenths = self.tenths();
         write!(f, "{}.{}%", tenths / 10, tenths % 10)
     }
 }

@@ -20,12 +20,12 @@ use workload::measures::worst_settling;
 
 // What a file of this name and these bytes says of a task.
 #[derive(Clone, Copy, Drop)]
-pub struct Report<'a> {
-    pub name: &'a str,
-    pub bytes: &'a [u8],
+pub struct Report<'n, 'b> {
+    pub name: &'n str,
+    pub bytes: &'b [u8],
 }
 
-pub impl fmt::Display for Report<'_> as ReportDisplay {
+pub impl fmt::Display for Report<'_, '_> as ReportDisplay {
     fn fmt<W: fmt::Write>(&self, f: &mut fmt::Formatter<W>) -> fmt::Result {
         write!(f, "{}: ", self.name)?;
         match Task::read(self.bytes) {
