@@ -1,4 +1,6 @@
 // What a task asks of a plan.
+#![tactic(auto)]
+
 ghost use Rattle.admission.specs.Demands.{Demands};
 ghost use Rattle.admission.specs.Same.{SameTasksAskTheSame, SameTasksSameBounds};
 

@@ -1,4 +1,6 @@
 // The least bounds of a plan of tasks, under any order of precedence.
+#![tactic(auto)]
+
 mod caps;
 mod equation;
 mod plan;

@@ -1,4 +1,6 @@
 // The worked cases of the subject, all in one list, and the theorem that each holds.
+#![tactic(auto)]
+
 ghost use Rattle.cases.specs.Cases.{CasesHold};
 
 // Every worked case holds of the definitions.

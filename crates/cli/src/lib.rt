@@ -1,4 +1,6 @@
 // The commands of the program, and the words in which it answers.
+#![tactic(auto)]
+
 pub mod commands;
 pub mod figures;
 mod planning;

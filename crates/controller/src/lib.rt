@@ -1,4 +1,6 @@
 // The controller: tasks in slots, their bounds, releases and ticks.
+#![tactic(auto)]
+
 mod checks;
 mod controller;
 mod edits;

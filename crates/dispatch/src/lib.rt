@@ -1,4 +1,6 @@
 // The tick engine: which nodes of the open jobs are ready, which node gets which core, and what the outcomes of a tick bring.
+#![tactic(auto)]
+
 pub mod closing;
 pub mod job;
 pub mod placing;

@@ -1,4 +1,6 @@
 // Reads task tables and plans, and prints what they hold, or why they are refused.
+#![tactic(auto)]
+
 use cli::run::run;
 
 // Ends the program with status 1. What went wrong has been told by then.

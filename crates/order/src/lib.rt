@@ -1,4 +1,6 @@
 // Orders of precedence between the jobs of different tasks.
+#![tactic(auto)]
+
 ghost use Rattle.std.specs.Prelude.{◌≡◌, ℕ, Bool, ℤ, Option};
 ghost use Rattle.order.specs.declared.Party.{Party};
 ghost use Rattle.order.specs.Laws.{Orderly};

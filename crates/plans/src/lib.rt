@@ -1,4 +1,6 @@
 // Plan files: cores, an order and tasks, as a person writes them.
+#![tactic(auto)]
+
 mod draft;
 mod numerals;
 pub mod parse;

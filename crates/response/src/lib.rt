@@ -1,4 +1,6 @@
 // The response-time theorem at the tasks of a plan: each function stands for statements of specs/, which its contract names.
+#![tactic(auto)]
+
 ghost use Rattle.response.specs.Statements.{EndsDecided, GraphsKeepLaws, PlansRespond};
 ghost use Rattle.response.specs.Example.{FlashesPlanned, FlashesRun};
 

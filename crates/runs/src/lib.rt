@@ -1,4 +1,6 @@
 // The response-time theorem: each function stands for statements of specs/, which its contract names.
+#![tactic(auto)]
+
 ghost use Rattle.runs.specs.Window.{WindowBounded, AheadBounded};
 ghost use Rattle.runs.specs.Statements.{AllRespond};
 ghost use Rattle.runs.specs.Example.{ExampleBounded, ExampleRuns};

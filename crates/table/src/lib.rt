@@ -1,4 +1,6 @@
 // The task table: its records, and the reader over a caller's bytes.
+#![tactic(auto)]
+
 ghost use Rattle.table.specs.Cases.{CasesStand};
 ghost use Rattle.table.specs.Reading.{Answered};
 

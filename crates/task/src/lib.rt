@@ -1,4 +1,6 @@
 // Tasks as conditional parallel graphs, and the rules of their shape.
+#![tactic(auto)]
+
 mod arcs;
 mod branches;
 mod ends;

@@ -1,4 +1,6 @@
 // Runs ticks of the example tasks and prints what each core runs and what came of it, for the gate to compare.
+#![tactic(auto)]
+
 use dispatch::closing::{close, first_wrong};
 use dispatch::job::Job;
 use dispatch::placing::place;

@@ -1,4 +1,6 @@
 // The response-time theorem: each function stands for statements of specs/, which its contract names.
+#![tactic(auto)]
+
 ghost use Rattle.timing.specs.Window.{WindowBounded, AheadBounded};
 ghost use Rattle.timing.specs.Statements.{AllRespond};
 ghost use Rattle.timing.specs.Example.{ExampleBounded, ExampleRuns};

@@ -1,4 +1,6 @@
 // Runs the plans that it is given, one after the other, for the gate to compare what is printed of them.
+#![tactic(auto)]
+
 use cli::run::report_text;
 use std::{env, fs};
 

@@ -1,4 +1,6 @@
 // Callers of a controller that conclude, from the contracts of its calls alone, that every job of their own sequence of calls is in time.
+#![tactic(auto)]
+
 ghost use Rattle.std.specs.Prelude.{List, Ok, Err};
 ghost use Rattle.controller.specs.Calls.{Event};
 ghost use Rattle.controller.specs.Does.{History};

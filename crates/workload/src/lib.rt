@@ -1,4 +1,6 @@
 // The greatest length and the greatest total of a task over all ways to settle its branchings.
+#![tactic(auto)]
+
 mod length;
 pub mod measures;
 mod settle;

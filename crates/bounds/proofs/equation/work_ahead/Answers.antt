@@ -9,8 +9,8 @@ div-up-requires c =
     let low : 1 * 1 ≤ c.args.cores * c.args.e.period = mul-le-mul one two in
     omega arith
 
-pub overflow-mul-result : goal.overflow-mul-result
-overflow-mul-result c =
+pub overflow_mul-result : goal.overflow_mul-result
+overflow_mul-result c =
     let s = work_small c.args.cores c.args.e.total c.args.window c.at-most.result (omega arith) (omega arith) (omega arith) (omega arith) in
     search rules
 

@@ -3,8 +3,8 @@ use Rattle.std.specs.Str.Iter.{lines_rest}
 use Rattle.plans.proofs.Texts.{one_line_more, wrong_line, all_read}
 use Rattle.plans.proofs.parse.parse.Goals as goal
 
-pub overflow-add-number : goal.overflow-add-number
-overflow-add-number c = omega (arith, c.loop-line.invariant.few_lines, c.in-Some.ensures.steps.0.0)
+pub overflow_add-number : goal.overflow_add-number
+overflow_add-number c = omega (arith, c.loop-line.invariant.few_lines, c.in-Some.ensures.steps.0.0)
 
 pub loop-line-preserved : goal.loop-line-preserved
 loop-line-preserved c =

@@ -9,9 +9,9 @@ turn c = turn_before c.args.nodes.now c.requires c.loop-v.v c.loop-v.weights c.l
 pub loop-v-init : goal.loop-v-init
 loop-v-init c = stage_start c.args.nodes.now
 
-pub overflow-add-gain : goal.overflow-add-gain
-overflow-add-gain c =
-    let fits = gain_fits _ _ _ _ _ (turn (goal.at.overflow-add-gain c).After-heaviest-pick) in
+pub overflow_add-gain : goal.overflow_add-gain
+overflow_add-gain c =
+    let fits = gain_fits _ _ _ _ _ (turn (goal.at.overflow_add-gain c).After-heaviest-pick) in
     omega arith
 
 pub add-requires : goal.add-requires

@@ -6,8 +6,8 @@ use Rattle.sets.proofs.Bits.{bit_below}
 use Rattle.sets.proofs.Marked.{xor_without}
 use Rattle.sets.proofs.bit_set.BitSet.without.Goals as goal
 
-pub overflow-shl-result : goal.overflow-shl-result
-overflow-shl-result c = bit_below 64 c.args.self.bits c.args.n (omega arith) c.requires
+pub overflow_shl-result : goal.overflow_shl-result
+overflow_shl-result c = bit_below 64 c.args.self.bits c.args.n (omega arith) c.requires
 
 pub returns : goal.returns
 returns c =
