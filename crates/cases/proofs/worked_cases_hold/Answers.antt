@@ -2,4 +2,4 @@ use Rattle.cases.proofs.Cases.{cases_hold}
 use Rattle.cases.proofs.worked_cases_hold.Goals as goal
 
 pub returns : goal.returns
-returns c = cases_hold c.example_stands_lem.ensures c.cases_right_lem.ensures c.cases-stand.ensures
+returns c = cases_hold c.example_stands.ensures c.cases_right.ensures c.cases_stand.ensures

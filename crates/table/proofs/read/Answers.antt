@@ -17,14 +17,14 @@ loop-part-init c =
           (kept_first bytes),
     )
 
-pub returns-in-err-part : goal.returns-in-err-part
-returns-in-err-part c =
-    let p = err_from_is_err_and c.from-residual.result c.from-residual.ensures.1 in
+pub returns-in_err-part : goal.returns-in_err-part
+returns-in_err-part c =
+    let p = err_from_is_err_and c.from_residual.result c.from_residual.ensures.1 in
     let r = c.loop-part.reader in
     let bytes = c.args.table.now in
     rw (p.1, p.2)
-    (faulted r.table.now bytes r.at r.seen c.loop-part.records c.in-err-part.field-0.0 c.loop-part.invariant.0 c.loop-part.invariant.2
-    c.in-err-part.ensures.value)
+    (faulted r.table.now bytes r.at r.seen c.loop-part.records c.in_err-part.field-0.0 c.loop-part.invariant.0 c.loop-part.invariant.2
+    c.in_err-part.ensures.value)
 
 pub put-requires : goal.put-requires
 put-requires c =
@@ -32,7 +32,7 @@ put-requires c =
     let bytes = c.args.table.now in
     let inv = c.loop-part.invariant in
     let h = stood r.table.now bytes r.at r.seen c.next.new.self.at c.next.new.self.seen
-    c.in-ok-part.field-0 (Some c.in-Some.part) inv.0 c.in-Some.is c.in-ok-part.ensures.value in (
+    c.in_ok-part.field-0 (Some c.in-Some.part) inv.0 c.in-Some.is c.in_ok-part.ensures.value in (
       place_kept bytes r.at r.seen c.loop-part.records c.in-Some.part.kind inv.2 h.0,
       fields_long bytes r.at r.seen c.in-Some.part.kind c.in-Some.part.fields.now h.0 h.1,
     )
@@ -44,7 +44,7 @@ returns-in-Err c =
     let inv = c.loop-part.invariant in
     let p = c.in-Some.part in
     let h = stood r.table.now bytes r.at r.seen c.next.new.self.at c.next.new.self.seen
-    c.in-ok-part.field-0 (Some p) inv.0 c.in-Some.is c.in-ok-part.ensures.value in
+    c.in_ok-part.field-0 (Some p) inv.0 c.in-Some.is c.in_ok-part.ensures.value in
     let out = kept_out bytes r.at r.seen c.loop-part.records p.kind p.fields.now c.in-Err.misfit inv.2 h.0 h.1
     c.in-Err.ensures in
     subst (λ (o : ℕ). Answered bytes (Err (Range o c.in-Err.misfit))) (sym h.2)
@@ -57,12 +57,12 @@ loop-part-preserved c =
     let inv = c.loop-part.invariant in
     let p = c.in-Some.part in
     let h = stood r.table.now bytes r.at r.seen c.next.new.self.at c.next.new.self.seen
-    c.in-ok-part.field-0 (Some p) inv.0 c.in-Some.is c.in-ok-part.ensures.value in
-    let got = c.in-default-put.ensures in
+    c.in_ok-part.field-0 (Some p) inv.0 c.in-Some.is c.in_ok-part.ensures.value in
+    let got = c.in_default-put.ensures in
     let k = kept_next bytes r.at r.seen c.loop-part.records p.kind p.fields.now got.it
-    (λ i. (c.type-inv.table i).fits) inv.2 h.0 h.1 got.kind_is got.in_range got.bytes_are in (
-      c.in-ok-part.ensures.same ∙ inv.0,
-      subst (λ (b : List ℕ). c.next.new.self.at ≤ length b) inv.0 c.in-ok-part.ensures.within,
+    (λ i. (c.type_inv.table i).fits) inv.2 h.0 h.1 got.kind_is got.in_range got.bytes_are in (
+      c.in_ok-part.ensures.same ∙ inv.0,
+      subst (λ (b : List ℕ). c.next.new.self.at ≤ length b) inv.0 c.in_ok-part.ensures.within,
       moved bytes _ c.next.new.self.at _ c.next.new.self.seen _ c.put.new.self h.3 h.4 got.after_is k,
     )
 
@@ -72,5 +72,5 @@ returns c =
     let bytes = c.args.table.now in
     let inv = c.loop-part.invariant in
     let h = stood r.table.now bytes r.at r.seen c.next.new.self.at c.next.new.self.seen
-    c.in-ok-part.field-0 None inv.0 c.in-default.is c.in-ok-part.ensures.value in
+    c.in_ok-part.field-0 None inv.0 c.in_default.is c.in_ok-part.ensures.value in
     answered bytes (Ok c.loop-part.records) (kept_ends bytes r.at r.seen c.loop-part.records inv.2 h.0 h.2)

@@ -5,4 +5,4 @@ use Rattle.bounds.proofs.equation.div_up.Goals as goal
 pub returns : goal.returns
 returns c =
     let e = up_is c.args.a c.args.b (omega arith) in
-    record { value = c.div-ceil.ensures ∙ e; small = omega (arith, c.div-ceil.ensures, e, up_small c.args.a c.args.b (omega arith)) }
+    record { value = c.div_ceil.ensures ∙ e; small = omega (arith, c.div_ceil.ensures, e, up_small c.args.a c.args.b (omega arith)) }

@@ -3,8 +3,8 @@ use Rattle.bounds.proofs.rise.least_bounds.Goals as goal
 
 pub loop-k-init : goal.loop-k-init
 loop-k-init g c =
-    first_sound (g.O.Order.most c.args.order.now) c.args.plan.now c.first-bounds-bounds.result c.all-caps-caps.result
-    c.tasks-of-pending.result c.first-bounds-bounds.ensures c.all-caps-caps.ensures c.tasks-of-pending.ensures
+    first_sound (g.O.Order.most c.args.order.now) c.args.plan.now c.first_bounds-bounds.result c.all_caps-caps.result
+    c.tasks_of-pending.result c.first_bounds-bounds.ensures c.all_caps-caps.ensures c.tasks_of-pending.ensures
 
 pub loop-k-smaller-in-Stays : goal.loop-k-smaller-in-Stays
 loop-k-smaller-in-Stays g c =
@@ -24,12 +24,12 @@ loop-k-smaller g c =
 pub loop-k-preserved : goal.loop-k-preserved
 loop-k-preserved g c =
     rises (g.met.O.Order.orderly c.args.order.now) c.loop-k.invariant c.in-Some.k c.in-Some.ensures.inside
-    c.in-Rises.bound c.in-Rises.ensures c.caps-of-row.result c.reopened-pending.result
-    c.caps-of-row.ensures c.reopened-pending.ensures
+    c.in-Rises.bound c.in-Rises.ensures c.caps_of-row.result c.reopened-pending.result
+    c.caps_of-row.ensures c.reopened-pending.ensures
 
 pub returns-in-Past : goal.returns-in-Past
 returns-in-Past g c =
     refused (g.met.O.Order.orderly c.args.order.now) c.loop-k.invariant c.in-Some.k c.in-Some.ensures.inside c.in-Past.ensures
 
 pub returns : goal.returns
-returns g c = none_pending (g.met.O.Order.orderly c.args.order.now) c.loop-k.invariant c.in-default.ensures
+returns g c = none_pending (g.met.O.Order.orderly c.args.order.now) c.loop-k.invariant c.in_default.ensures

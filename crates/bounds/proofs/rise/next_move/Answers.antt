@@ -6,14 +6,14 @@ pub returns-then-side-d : goal.returns-then-side-d
 returns-then-side-d c = (
   c.in-Some.d,
   held_at c.args.plan.now c.args.k c.index-plan-k.result (Some c.in-Some.d) (omega arith) c.in-Some.is,
-  omega (arith, c.right-side-side.ensures, c.if-side-d.true),
+  omega (arith, c.right_side-side.ensures, c.if-side-d.true),
 )
 
 pub returns : goal.returns
 returns c = (
   c.in-Some.d,
   held_at c.args.plan.now c.args.k c.index-plan-k.result (Some c.in-Some.d) (omega arith) c.in-Some.is,
-  c.right-side-side.ensures,
+  c.right_side-side.ensures,
   c.if-side-d.false,
   c.if-side-bounds.false,
 )

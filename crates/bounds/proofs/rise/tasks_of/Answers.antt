@@ -5,7 +5,7 @@ use Rattle.bounds.specs.Equation.{held}
 use Rattle.bounds.specs.Steps.{Holds}
 use Rattle.bounds.proofs.Sides.{held_at, none_some}
 use Rattle.bounds.proofs.rise.tasks_of.Goals as goal
-use Rattle.bounds.proofs.rise.tasks_of.Goals.{in-Some, in-default}
+use Rattle.bounds.proofs.rise.tasks_of.Goals.{in-Some, in_default}
 
 pub loop-k-preserved : goal.loop-k-preserved
 loop-k-preserved c =
@@ -17,9 +17,9 @@ loop-k-preserved c =
             c.loop-k-test.true,
             (w.in-Some.field-0, held_at plan k c.index-plan-k.result (Some w.in-Some.field-0) c.loop-k-test.true w.in-Some.is),
           ))
-      | in-default w ↦ subst (λ (s : BitSet). MarksBelow (Holds plan) (k + 1) s) (sym w.tasks-is)
+      | in_default w ↦ subst (λ (s : BitSet). MarksBelow (Holds plan) (k + 1) s) (sym w.tasks-is)
           (mark_skip (Holds plan) k c.loop-k.tasks c.loop-k.invariant
-          (λ h. none_some (held plan k) (held_at plan k c.index-plan-k.result None c.loop-k-test.true w.in-default.is) h.1.1))
+          (λ h. none_some (held plan k) (held_at plan k c.index-plan-k.result None c.loop-k-test.true w.in_default.is) h.1.1))
     ]
 
 pub returns : goal.returns

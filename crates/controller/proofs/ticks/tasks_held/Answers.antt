@@ -3,7 +3,7 @@ use Rattle.std.proofs.lemmas.List.{drop_more, drop_all}
 use Rattle.task.specs.declared.held.Task.{Task}
 use Rattle.controller.specs.State.{held_in}
 use Rattle.controller.proofs.ticks.tasks_held.Goals as goal
-use Rattle.controller.proofs.ticks.tasks_held.Goals.{in-Some, in-default}
+use Rattle.controller.proofs.ticks.tasks_held.Goals.{in-Some, in_default}
 
 pub loop-task-preserved : goal.loop-task-preserved
 loop-task-preserved c =
@@ -15,9 +15,9 @@ loop-task-preserved c =
           let here : held_in (get_or tasks i c.task-item.result ∷ drop (i + 1) tasks) ≡ suc (held_in (drop (i + 1) tasks)) =
           ap (λ (x : Option Task). held_in (x ∷ drop (i + 1) tasks)) w.in-Some.is in
           (omega (arith, w.held-is, c.loop-task.invariant.0, more, here), omega (arith, w.held-is, c.loop-task.invariant.1))
-      | in-default w ↦
+      | in_default w ↦
           let here : held_in (get_or tasks i c.task-item.result ∷ drop (i + 1) tasks) ≡ held_in (drop (i + 1) tasks) =
-          ap (λ (x : Option Task). held_in (x ∷ drop (i + 1) tasks)) w.in-default.is in
+          ap (λ (x : Option Task). held_in (x ∷ drop (i + 1) tasks)) w.in_default.is in
           (omega (arith, w.held-is, c.loop-task.invariant.0, more, here), omega (arith, w.held-is, c.loop-task.invariant.1))
     ]
 

@@ -7,11 +7,11 @@ pub loop-slot-preserved : goal.loop-slot-preserved
 loop-slot-preserved c =
     let i = c.loop-slot.slot in
     let now = c.loop-slot.waited in
-    let x = c.wait-longer.result in (
+    let x = c.wait_longer.result in (
       length-set now i x ∙ c.loop-slot.invariant.0,
       below_more _ _
           (λ k h. get_or-set_other now i k x None (λ e. let z : k < i = h in omega (arith, e)) ∙ c.loop-slot.invariant.1 k h)
-          (get_or-set_same now i x None (omega (arith, c.loop-slot.invariant.0)) ∙ c.wait-longer.ensures ∙ ap one_more (c.loop-slot.invariant.2 i (omega arith))),
+          (get_or-set_same now i x None (omega (arith, c.loop-slot.invariant.0)) ∙ c.wait_longer.ensures ∙ ap one_more (c.loop-slot.invariant.2 i (omega arith))),
       λ k h. get_or-set_other now i k x None (λ e. omega (arith, e)) ∙ c.loop-slot.invariant.2 k (omega arith),
     )
 

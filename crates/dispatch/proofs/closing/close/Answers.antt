@@ -9,8 +9,8 @@ use Rattle.dispatch.proofs.Rights.{slot_rights}
 use Rattle.dispatch.proofs.closing.close.Goals as goal
 use Rattle.dispatch.proofs.closing.close.Goals.{in-Unmoved, in-Ends, in-Stays}
 
-pub fate-of-requires : goal.fate-of-requires
-fate-of-requires c =
+pub fate_of-requires : goal.fate_of-requires
+fate_of-requires c =
     let tasks = c.args.tasks.now in
     let k = c.loop-slot.slot in
     let d = c.index-tasks-at.result in (
@@ -33,7 +33,7 @@ loop-slot-preserved c =
     let left = c.loop-slot.jobs in
     let d = c.index-tasks-at.result in
     let et : task_at tasks k ≡ get_or tasks k d = get_or_default tasks k None d (omega arith) in
-    elim c.match-fate-of.branch [
+    elim c.match-fate_of.branch [
       | in-Unmoved w ↦
           subst₂ (λ (x : ℕ) (y : List (Option Job)). ClosingBelow tasks jobs spots outcomes (k + 1) x y) (sym w.ended-is) (sym w.jobs-is)
           (closing_still tasks jobs spots outcomes k mask left c.loop-slot.invariant (omega arith) (get_or tasks k d) et w.in-Unmoved.ensures)

@@ -9,7 +9,7 @@ moved-later-requires c = (
       c.in-Some-Some.is-0 c.in-Some-Some.is-1 c.requires.1,
 )
 
-pub returns-else-is-over : goal.returns-else-is-over
-returns-else-is-over c =
+pub returns-else-is_over : goal.returns-else-is_over
+returns-else-is_over c =
     stays_fated c.args.spots.now c.args.outcomes.now c.args.slot c.args.task.now c.args.job.now c.in-Some-Some.task c.in-Some-Some.job
-    c.moved-later.result c.in-Some-Some.is-0 c.in-Some-Some.is-1 c.if-is-over.ensures c.moved-later.ensures
+    c.moved-later.result c.in-Some-Some.is-0 c.in-Some-Some.is-1 c.if-is_over.ensures c.moved-later.ensures

@@ -14,5 +14,5 @@ returns c =
     let lawful = c.nodes.ensures.lawful in
     let g = task_ranged task.table lawful in
     let states = c.args.states.now in
-    says_like c.has-ended.result (ends_job (task_nodes task) (task_arcs task) g lawful.shaped states) (job_ends (task_nodes task) (task_arcs task) g lawful.shaped states)
-    (subst (λ (l : List Node). Says c.has-ended.result (HasEnded states (length l - 1))) c.nodes.ensures.value c.has-ended.ensures)
+    says_like c.has_ended.result (ends_job (task_nodes task) (task_arcs task) g lawful.shaped states) (job_ends (task_nodes task) (task_arcs task) g lawful.shaped states)
+    (subst (λ (l : List Node). Says c.has_ended.result (HasEnded states (length l - 1))) c.nodes.ensures.value c.has_ended.ensures)

@@ -13,9 +13,9 @@ returns-then-slot-lt16 c =
     let jobs = c.args.jobs.now in
     let p = c.in-Some.field-0 in
     let o = meant c.args.outcome in
-    subst (λ (x : Option Spot). Says c.is-right-in.result (RightFor tasks jobs x c.args.outcome)) (sym c.in-Some.is)
-    (says_like c.is-right-in.result (right_of_at tasks jobs p o c.index-tasks-slot.result (omega arith))
-    (right_at_of tasks jobs p o c.index-tasks-slot.result (omega arith)) c.is-right-in.ensures)
+    subst (λ (x : Option Spot). Says c.is_right_in.result (RightFor tasks jobs x c.args.outcome)) (sym c.in-Some.is)
+    (says_like c.is_right_in.result (right_of_at tasks jobs p o c.index-tasks-slot.result (omega arith))
+    (right_at_of tasks jobs p o c.index-tasks-slot.result (omega arith)) c.is_right_in.ensures)
 
 pub returns-else-slot-lt16 : goal.returns-else-slot-lt16
 returns-else-slot-lt16 c =

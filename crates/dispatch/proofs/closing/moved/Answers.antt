@@ -5,8 +5,8 @@ use Rattle.workload.proofs.Tasks.{task_ranged}
 use Rattle.dispatch.specs.Moves.{RightInSlot}
 use Rattle.dispatch.proofs.closing.moved.Goals as goal
 
-pub run-nodes-requires : goal.run-nodes-requires
-run-nodes-requires c =
+pub run_nodes-requires : goal.run_nodes-requires
+run_nodes-requires c =
     let g = task_ranged c.args.task.now.table c.nodes.ensures.lawful in
     let same = sym c.nodes.ensures.value in (
       subst (λ (l : List Node). length l ≤ 64) same g.few_nodes,

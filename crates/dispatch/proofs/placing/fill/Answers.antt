@@ -12,10 +12,10 @@ loop-core-preserved c =
     filling_more c.args.ready.now (RowHas c.args.kept.now) (AheadIn c.args.ahead.now) c.loop-core.spots c.loop-core.left
     c.loop-core.core c.in-Some.spot c.without.result c.loop-core.invariant (omega arith) c.in-Some.ensures c.without.ensures
 
-pub returns-in-default : goal.returns-in-default
-returns-in-default c =
+pub returns-in_default : goal.returns-in_default
+returns-in_default c =
     filled_early c.args.ready.now (RowHas c.args.kept.now) (AheadIn c.args.ahead.now) c.loop-core.spots c.loop-core.left
-    c.args.cores c.loop-core.core c.loop-core.invariant (omega arith) c.in-default.ensures
+    c.args.cores c.loop-core.core c.loop-core.invariant (omega arith) c.in_default.ensures
 
 pub returns : goal.returns
 returns c =

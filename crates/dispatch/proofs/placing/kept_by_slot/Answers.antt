@@ -7,5 +7,5 @@ pub loop-slot-preserved : goal.loop-slot-preserved
 loop-slot-preserved c =
     let jobs = c.args.jobs.now in
     let k = c.loop-slot.slot in
-    rows_more (KeptIn jobs) c.loop-slot.kept k c.kept-in.result (omega arith) c.loop-slot.invariant
-    (kept_row jobs k c.kept-in.result c.kept-in.ensures)
+    rows_more (KeptIn jobs) c.loop-slot.kept k c.kept_in.result (omega arith) c.loop-slot.invariant
+    (kept_row jobs k c.kept_in.result c.kept_in.ensures)

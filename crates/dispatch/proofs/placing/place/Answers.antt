@@ -6,6 +6,6 @@ use Rattle.dispatch.proofs.placing.place.Goals as goal
 pub returns : goal.returns
 returns c =
     placed_alike
-    (rows_alike c.args.tasks.now c.args.jobs.now c.ready-by-slot-ready.result c.kept-by-slot-kept.result (AheadIn c.args.ahead.now)
-    c.ready-by-slot-ready.ensures c.kept-by-slot-kept.ensures)
+    (rows_alike c.args.tasks.now c.args.jobs.now c.ready_by_slot-ready.result c.kept_by_slot-kept.result (AheadIn c.args.ahead.now)
+    c.ready_by_slot-ready.ensures c.kept_by_slot-kept.ensures)
     c.args.cores c.fill.result.spots c.fill.result.busy c.fill.ensures

@@ -8,5 +8,5 @@ loop-slot-preserved c =
     let tasks = c.args.tasks.now in
     let jobs = c.args.jobs.now in
     let k = c.loop-slot.slot in
-    rows_more (ReadyIn tasks jobs) c.loop-slot.ready k c.ready-in.result (omega arith) c.loop-slot.invariant
-    (ready_row tasks jobs k c.index-tasks-slot.result c.ready-in.result (omega arith) (omega arith) c.ready-in.ensures)
+    rows_more (ReadyIn tasks jobs) c.loop-slot.ready k c.ready_in.result (omega arith) c.loop-slot.invariant
+    (ready_row tasks jobs k c.index-tasks-slot.result c.ready_in.result (omega arith) (omega arith) c.ready_in.ensures)

@@ -3,7 +3,7 @@ use Rattle.sets.specs.declared.bit_set.BitSet.{BitSet}
 use Rattle.sets.proofs.Marked.{MarksBelow, mark_none, mark_skip, mark_more, mark_all}
 use Rattle.dispatch.specs.Search.{UnderWay, MayStart}
 use Rattle.dispatch.proofs.ready.pending_nodes.Goals as goal
-use Rattle.dispatch.proofs.ready.pending_nodes.Goals.{then-is-under-way+then-may-start, then-is-under-way+else-may-start, else-is-under-way}
+use Rattle.dispatch.proofs.ready.pending_nodes.Goals.{then-is_under_way+then-may_start, then-is_under_way+else-may_start, else-is_under_way}
 
 pub loop-v-init : goal.loop-v-init
 loop-v-init c = (mark_none (UnderWay c.args.nodes.now c.args.states.now), mark_none (MayStart c.args.nodes.now c.args.states.now))
@@ -15,22 +15,22 @@ loop-v-preserved c =
     let v = c.loop-v.v in
     let under = c.loop-v.under in
     let may = c.loop-v.may in
-    elim c.if-is-under-way.branch [
-      | then-is-under-way+then-may-start w ↦ (
+    elim c.if-is_under_way.branch [
+      | then-is_under_way+then-may_start w ↦ (
         subst (λ (s : BitSet). MarksBelow U (v + 1) s) (sym w.under-is)
-            (mark_more U v under w.with-under.result c.loop-v.invariant.0 w.with-under.ensures w.if-is-under-way.ensures),
+            (mark_more U v under w.with-under.result c.loop-v.invariant.0 w.with-under.ensures w.if-is_under_way.ensures),
         subst (λ (s : BitSet). MarksBelow M (v + 1) s) (sym w.may-is)
-            (mark_more M v may w.with-may.result c.loop-v.invariant.1 w.with-may.ensures w.if-may-start.ensures),
+            (mark_more M v may w.with-may.result c.loop-v.invariant.1 w.with-may.ensures w.if-may_start.ensures),
       )
-      | then-is-under-way+else-may-start w ↦ (
+      | then-is_under_way+else-may_start w ↦ (
         subst (λ (s : BitSet). MarksBelow U (v + 1) s) (sym w.under-is)
-            (mark_more U v under w.with-under.result c.loop-v.invariant.0 w.with-under.ensures w.if-is-under-way.ensures),
-        subst (λ (s : BitSet). MarksBelow M (v + 1) s) (sym w.may-is) (mark_skip M v may c.loop-v.invariant.1 w.if-may-start.ensures),
+            (mark_more U v under w.with-under.result c.loop-v.invariant.0 w.with-under.ensures w.if-is_under_way.ensures),
+        subst (λ (s : BitSet). MarksBelow M (v + 1) s) (sym w.may-is) (mark_skip M v may c.loop-v.invariant.1 w.if-may_start.ensures),
       )
-      | else-is-under-way w ↦ (
-        subst (λ (s : BitSet). MarksBelow U (v + 1) s) (sym w.under-is) (mark_skip U v under c.loop-v.invariant.0 w.if-is-under-way.ensures),
+      | else-is_under_way w ↦ (
+        subst (λ (s : BitSet). MarksBelow U (v + 1) s) (sym w.under-is) (mark_skip U v under c.loop-v.invariant.0 w.if-is_under_way.ensures),
         subst (λ (s : BitSet). MarksBelow M (v + 1) s) (sym w.may-is)
-            (mark_skip M v may c.loop-v.invariant.1 (λ m. w.if-is-under-way.ensures m.under_way)),
+            (mark_skip M v may c.loop-v.invariant.1 (λ m. w.if-is_under_way.ensures m.under_way)),
       )
     ]
 

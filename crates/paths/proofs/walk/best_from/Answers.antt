@@ -40,11 +40,11 @@ loop-v-preserved g c =
 pub returns-then-has-2 : goal.returns-then-has-2
 returns-then-has-2 g c =
     sought_goal (g.met.P.PathAlgebra.lawful c.args.algebra.now) (g.P.PathAlgebra.weight c.args.algebra.now) (HasArc c.args.after.now)
-    c.args.nodes.now c.args.goals c.args.n c.loop-v.left c.loop-v.best c.in-default.ensures c.loop-v.invariant
+    c.args.nodes.now c.args.goals c.args.n c.loop-v.left c.loop-v.best c.in_default.ensures c.loop-v.invariant
     c.weigh-weight.result c.joined-then-has-2.result c.requires.node c.if-has-2.ensures c.weigh-weight.ensures c.joined-then-has-2.ensures
 
 pub returns-else-has-2 : goal.returns-else-has-2
 returns-else-has-2 g c =
     sought_no_goal (g.met.P.PathAlgebra.lawful c.args.algebra.now) (g.P.PathAlgebra.weight c.args.algebra.now) (HasArc c.args.after.now)
-    c.args.nodes.now c.args.goals c.args.n c.loop-v.left c.loop-v.best c.in-default.ensures c.loop-v.invariant
+    c.args.nodes.now c.args.goals c.args.n c.loop-v.left c.loop-v.best c.in_default.ensures c.loop-v.invariant
     c.if-has-2.ensures

@@ -11,7 +11,7 @@ loop-line-preserved c =
     let k = c.loop-line.invariant in
     let h = c.in-Some.ensures.steps.0 in
     one_line_more c.args.text.now (lines_rest c.loop-line.lines) c.in-Some.line.now (lines_rest c.next.new.self) c.loop-line.number
-    c.loop-line.draft c.line.new.self k h.0 h.2 (c.in-default-line.ensures k.statements k.drafted)
+    c.loop-line.draft c.line.new.self k h.0 h.2 (c.in_default-line.ensures k.statements k.drafted)
 
 pub returns-in-Err : goal.returns-in-Err
 returns-in-Err c =
@@ -24,4 +24,4 @@ pub returns : goal.returns
 returns c =
     let k = c.loop-line.invariant in
     all_read c.args.text.now (lines_rest c.loop-line.lines) c.loop-line.number c.loop-line.draft c.finish.result k
-    c.in-default.ensures.steps.0.0 (c.finish.ensures k.statements k.drafted)
+    c.in_default.ensures.steps.0.0 (c.finish.ensures k.statements k.drafted)

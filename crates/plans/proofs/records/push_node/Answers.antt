@@ -3,4 +3,4 @@ use Rattle.plans.proofs.Written.{extended}
 use Rattle.plans.proofs.records.push_node.Goals as goal
 
 pub returns : goal.returns
-returns c = extended _ _ _ _ _ c.extend-from-slice.ensures.items c.node-bytes.ensures
+returns c = extended _ _ _ _ _ c.extend_from_slice.ensures.items c.node_bytes.ensures

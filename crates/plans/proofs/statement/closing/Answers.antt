@@ -2,8 +2,8 @@ use Rattle.std.proofs.Common.{rules}
 use Rattle.plans.proofs.Saying.{closes_short, closes_not_of, closes_said, closes_unsaid}
 use Rattle.plans.proofs.statement.closing.Goals as goal
 
-pub returns-in-default : goal.returns-in-default
-returns-in-default c = closes_short c.args.words.now c.args.time (search rules)
+pub returns-in_default : goal.returns-in_default
+returns-in_default c = closes_short c.args.words.now c.args.time (search rules)
 
 pub returns-then-ne : goal.returns-then-ne
 returns-then-ne c = closes_not_of c.args.words.now c.args.time (search rules) (search rules)

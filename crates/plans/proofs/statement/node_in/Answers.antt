@@ -2,11 +2,11 @@ use Rattle.std.proofs.Common.{rules}
 use Rattle.plans.proofs.Saying.{node_short, node_unsaid_time, node_plain, node_opening, node_closing, node_no_role}
 use Rattle.plans.proofs.statement.node_in.Goals as goal
 
-pub returns-in-default : goal.returns-in-default
-returns-in-default c = node_short c.args.words.now (search rules)
+pub returns-in_default : goal.returns-in_default
+returns-in_default c = node_short c.args.words.now (search rules)
 
-pub returns-in-default-number-in : goal.returns-in-default-number-in
-returns-in-default-number-in c = node_unsaid_time c.args.words.now (search rules) c.in-default-number-in.ensures
+pub returns-in_default-number_in : goal.returns-in_default-number_in
+returns-in_default-number_in c = node_unsaid_time c.args.words.now (search rules) c.in_default-number_in.ensures
 
 pub returns-in-plain : goal.returns-in-plain
 returns-in-plain c =
@@ -21,5 +21,5 @@ pub returns-in-closing : goal.returns-in-closing
 returns-in-closing c =
     node_closing c.args.words.now c.in-Some.time c.closing.result (search rules) c.in-closing.is c.in-Some.ensures c.closing.ensures
 
-pub returns-in-default-role : goal.returns-in-default-role
-returns-in-default-role c = node_no_role c.args.words.now (search rules) (search rules) (search rules) (search rules)
+pub returns-in_default-role : goal.returns-in_default-role
+returns-in_default-role c = node_no_role c.args.words.now (search rules) (search rules) (search rules) (search rules)

@@ -7,10 +7,10 @@ pub returns-in-empty : goal.returns-in-empty
 returns-in-empty c = spelled_0 c.args.words.now (search rules)
 
 pub returns-in-len4 : goal.returns-in-len4
-returns-in-len4 c = region_of_branch c.args.words.now c.branch-in.result (search rules) c.branch-in.ensures
+returns-in-len4 c = region_of_branch c.args.words.now c.branch_in.result (search rules) c.branch_in.ensures
 
-pub returns-in-default : goal.returns-in-default
-returns-in-default c = region_uncounted c.args.words.now (search rules) (search rules)
+pub returns-in_default : goal.returns-in_default
+returns-in_default c = region_uncounted c.args.words.now (search rules) (search rules)
 
 pub returns-in-default·2 : goal.returns-in-default·2
 returns-in-default·2 c = region_uncounted c.args.words.now (search rules) (search rules)

@@ -3,14 +3,14 @@ use Rattle.plans.specs.Statements.{told_table}
 use Rattle.plans.proofs.Saying.{task_short, task_no_slot, task_unsaid_slot, task_said, task_untold}
 use Rattle.plans.proofs.statement.task_statement.Goals as goal
 
-pub returns-in-default : goal.returns-in-default
-returns-in-default c = task_short c.args.words.now (search rules)
+pub returns-in_default : goal.returns-in_default
+returns-in_default c = task_short c.args.words.now (search rules)
 
 pub returns-then-ne : goal.returns-then-ne
 returns-then-ne c = task_no_slot c.args.words.now (search rules) (search rules)
 
-pub returns-in-default-byte-in : goal.returns-in-default-byte-in
-returns-in-default-byte-in c = task_unsaid_slot c.args.words.now (search rules) c.in-default-byte-in.ensures
+pub returns-in_default-byte_in : goal.returns-in_default-byte_in
+returns-in_default-byte_in c = task_unsaid_slot c.args.words.now (search rules) c.in_default-byte_in.ensures
 
 pub returns-in-Ok : goal.returns-in-Ok
 returns-in-Ok c =

@@ -2,7 +2,7 @@ use Rattle.std.proofs.Common.{arith, below_more}
 use Rattle.task.specs.Shape.{LawfulArc}
 use Rattle.task.proofs.Lawful.{to_small, from_small, sees_none, sees_more, fresh, not_fresh}
 use Rattle.task.proofs.arcs.arcs_are_lawful.Goals as goal
-use Rattle.task.proofs.arcs.arcs_are_lawful.Goals.{then-has-via-then-has, then-has-via-else-has+then-not-is-of-a-kind}
+use Rattle.task.proofs.arcs.arcs_are_lawful.Goals.{then-has-via-then-has, then-has-via-else-has+then-not-is_of_a_kind}
 
 pub has-requires : goal.has-requires
 has-requires c = from_small c.args.nodes.now c.args.arcs.now c.requires c.loop-k.k c.loop-k-test.true
@@ -24,7 +24,7 @@ loop-k-preserved c =
     let seen = c.loop-k.seen in
     let sees = c.loop-k.invariant.0 in (
       sees_more arcs k seen c.insert.new.self sees c.insert.ensures,
-      below_more (LawfulArc ns arcs) k c.loop-k.invariant.1 (fresh arcs ns k seen sees c.if-has.ensures c.if-not-is-of-a-kind.ensures),
+      below_more (LawfulArc ns arcs) k c.loop-k.invariant.1 (fresh arcs ns k seen sees c.if-has.ensures c.if-not-is_of_a_kind.ensures),
     )
 
 pub returns-then-has : goal.returns-then-has
@@ -35,7 +35,7 @@ returns-then-has c =
           elim c.then-has.branch [
             | then-has-via-then-has w ↦
                 not_fresh c.args.arcs.now c.args.nodes.now c.loop-k.k c.loop-k.seen c.loop-k.invariant.0 w.if-has.ensures
-            | then-has-via-else-has+then-not-is-of-a-kind w ↦ λ lawful. w.if-not-is-of-a-kind.ensures lawful.kind
+            | then-has-via-else-has+then-not-is_of_a_kind w ↦ λ lawful. w.if-not-is_of_a_kind.ensures lawful.kind
           ];
       none_before = c.loop-k.invariant.1;
     }

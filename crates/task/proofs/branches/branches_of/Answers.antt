@@ -4,7 +4,7 @@ use Rattle.sets.specs.Sets.{Marks}
 use Rattle.sets.proofs.Marked.{SomeBelow, gather_none, gather_skip, gather_more}
 use Rattle.task.proofs.Branched.{LiesInBranch, branches_marked}
 use Rattle.task.proofs.branches.branches_of.Goals as goal
-use Rattle.task.proofs.branches.branches_of.Goals.{in-Some, in-default}
+use Rattle.task.proofs.branches.branches_of.Goals.{in-Some, in_default}
 
 pub with-branches-requires : goal.with-branches-requires
 with-branches-requires c =
@@ -18,12 +18,12 @@ loop-v-preserved c =
     let Q = LiesInBranch c.args.nodes.now c.args.opening in
     let v = c.loop-v.v in
     let old = c.loop-v.branches in
-    elim c.match-branch-under.branch [
+    elim c.match-branch_under.branch [
       | in-Some w ↦
           subst (λ (s : BitSet). Marks (SomeBelow Q (v + 1)) s) (sym w.branches-is)
           (gather_more Q v w.in-Some.branch old w.with-branches.result c.loop-v.invariant w.with-branches.ensures w.in-Some.ensures
           (λ n q. let e = w.in-Some.ensures in cc))
-      | in-default w ↦ subst (λ (s : BitSet). Marks (SomeBelow Q (v + 1)) s) (sym w.branches-is) (gather_skip Q v old c.loop-v.invariant w.in-default.ensures)
+      | in_default w ↦ subst (λ (s : BitSet). Marks (SomeBelow Q (v + 1)) s) (sym w.branches-is) (gather_skip Q v old c.loop-v.invariant w.in_default.ensures)
     ]
 
 pub returns : goal.returns

@@ -10,18 +10,18 @@ loop-v-preserved c =
     let arcs = c.args.arcs.now in
     let v = c.loop-v.v in
     below_more (HasEndsAt ns arcs) v c.loop-v.invariant
-    (ends_of_each ns arcs c.first-nodes-firsts.result c.last-nodes-lasts.result c.first-nodes-firsts.ensures c.last-nodes-lasts.ensures (region ns v)
-    c.if-not-has-one-of-each.ensures)
+    (ends_of_each ns arcs c.first_nodes-firsts.result c.last_nodes-lasts.result c.first_nodes-firsts.ensures c.last_nodes-lasts.ensures (region ns v)
+    c.if-not-has_one_of_each.ensures)
 
-pub returns-then-not-has-one-of-each : goal.returns-then-not-has-one-of-each
-returns-then-not-has-one-of-each c =
+pub returns-then-not-has_one_of_each : goal.returns-then-not-has_one_of_each
+returns-then-not-has_one_of_each c =
     let ns = c.args.nodes.now in
     let arcs = c.args.arcs.now in
     record {
       within = c.loop-v-test.true;
       fails = λ ends.
-          c.if-not-has-one-of-each.ensures
-          (each_of_ends ns arcs c.first-nodes-firsts.result c.last-nodes-lasts.result c.first-nodes-firsts.ensures c.last-nodes-lasts.ensures (region ns c.loop-v.v) ends);
+          c.if-not-has_one_of_each.ensures
+          (each_of_ends ns arcs c.first_nodes-firsts.result c.last_nodes-lasts.result c.first_nodes-firsts.ensures c.last_nodes-lasts.ensures (region ns c.loop-v.v) ends);
       none_before = c.loop-v.invariant;
     }
 

@@ -3,7 +3,7 @@ use Rattle.sets.specs.declared.bit_set.BitSet.{BitSet}
 use Rattle.task.specs.Deciding.{Within}
 use Rattle.sets.proofs.Marked.{MarksBelow, mark_none, mark_skip, mark_more, mark_all}
 use Rattle.task.proofs.ends.within.Goals as goal
-use Rattle.task.proofs.ends.within.Goals.{then-is-within, else-is-within}
+use Rattle.task.proofs.ends.within.Goals.{then-is_within, else-is_within}
 
 pub loop-v-init : goal.loop-v-init
 loop-v-init c = mark_none (Within c.args.nodes.now c.args.region c.args.set)
@@ -13,11 +13,11 @@ loop-v-preserved c =
     let P = Within c.args.nodes.now c.args.region c.args.set in
     let v = c.loop-v.v in
     let old = c.loop-v.found in
-    elim c.if-is-within.branch [
-      | then-is-within w ↦
+    elim c.if-is_within.branch [
+      | then-is_within w ↦
           subst (λ (s : BitSet). MarksBelow P (v + 1) s) (sym w.found-is)
-          (mark_more P v old w.with-found.result c.loop-v.invariant w.with-found.ensures w.if-is-within.ensures)
-      | else-is-within w ↦ subst (λ (s : BitSet). MarksBelow P (v + 1) s) (sym w.found-is) (mark_skip P v old c.loop-v.invariant w.if-is-within.ensures)
+          (mark_more P v old w.with-found.result c.loop-v.invariant w.with-found.ensures w.if-is_within.ensures)
+      | else-is_within w ↦ subst (λ (s : BitSet). MarksBelow P (v + 1) s) (sym w.found-is) (mark_skip P v old c.loop-v.invariant w.if-is_within.ensures)
     ]
 
 pub returns : goal.returns

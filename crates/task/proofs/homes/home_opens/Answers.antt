@@ -8,5 +8,5 @@ returns-in-None c = λ h inside. absurd (c.in-None.ensures h inside)
 pub returns-in-Some : goal.returns-in-Some
 returns-in-Some c =
     let inside = c.in-Some.ensures in
-    says_like c.is-opening.result (home_opens_lem c.args.nodes.now c.args.v c.in-Some.home inside) (λ all. all c.in-Some.home inside)
-    c.is-opening.ensures
+    says_like c.is_opening.result (home_opens_lem c.args.nodes.now c.args.v c.in-Some.home inside) (λ all. all c.in-Some.home inside)
+    c.is_opening.ensures

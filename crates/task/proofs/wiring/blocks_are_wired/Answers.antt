@@ -9,7 +9,7 @@ loop-v-preserved c =
     let arcs = c.args.arcs.now in
     let v = c.loop-v.v in
     below_more (Wired ns arcs) v c.loop-v.invariant
-    (wired_gates ns arcs c.gates-of-gates.result c.requires.0 c.requires.1.0 c.requires.1.1 c.gates-of-gates.ensures v c.loop-v-test.true c.if-not-gated.ensures)
+    (wired_gates ns arcs c.gates_of-gates.result c.requires.0 c.requires.1.0 c.requires.1.1 c.gates_of-gates.ensures v c.loop-v-test.true c.if-not-gated.ensures)
 
 pub returns-then-not-gated : goal.returns-then-not-gated
 returns-then-not-gated c =
@@ -19,7 +19,7 @@ returns-then-not-gated c =
       within = c.loop-v-test.true;
       fails = λ wired.
           c.if-not-gated.ensures
-          (gates_wired ns arcs c.gates-of-gates.result c.requires.0 c.requires.1.0 c.requires.1.1 c.gates-of-gates.ensures c.loop-v.v c.loop-v-test.true wired);
+          (gates_wired ns arcs c.gates_of-gates.result c.requires.0 c.requires.1.0 c.requires.1.1 c.gates_of-gates.ensures c.loop-v.v c.loop-v-test.true wired);
       none_before = c.loop-v.invariant;
     }
 

@@ -16,8 +16,8 @@ longest-requires c =
     (subst (λ (l : List Node). Ranged l (arcs_of table)) (sym c.nodes-nodes.ensures.value)
     (task_ranged table c.nodes-nodes.ensures.lawful))
 
-pub worst-of-requires : goal.worst-of-requires
-worst-of-requires c =
+pub worst_of-requires : goal.worst_of-requires
+worst_of-requires c =
     subst Nested (sym c.nodes-nodes.ensures.value) (task_nested c.args.task.now.table c.nodes-nodes.ensures.lawful)
 
 pub returns : goal.returns
@@ -29,5 +29,5 @@ returns c =
       length = longest_path_is_length_lem (nodes_of table) (arcs_of table) l (task_ranged table lawful) lawful.shaped
           (subst (λ (n : List Node). IsLongestPath n (arcs_of table) l) c.nodes-nodes.ensures.value
           (subst (λ (a : List Arc). IsLongestPath c.nodes-nodes.result.now a l) c.arcs.ensures c.longest.ensures));
-      total = subst (λ (n : List Node). IsGreatestTotal n c.worst-of.result.total) c.nodes-nodes.ensures.value c.worst-of.ensures.greatest;
+      total = subst (λ (n : List Node). IsGreatestTotal n c.worst_of.result.total) c.nodes-nodes.ensures.value c.worst_of.ensures.greatest;
     }

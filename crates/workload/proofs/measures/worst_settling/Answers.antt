@@ -3,5 +3,5 @@ use Rattle.workload.specs.Nested.{Nested}
 use Rattle.workload.proofs.Tasks.{task_nested}
 use Rattle.workload.proofs.measures.worst_settling.Goals as goal
 
-pub worst-of-requires : goal.worst-of-requires
-worst-of-requires c = subst Nested (sym c.nodes.ensures.value) (task_nested c.args.task.now.table c.nodes.ensures.lawful)
+pub worst_of-requires : goal.worst_of-requires
+worst_of-requires c = subst Nested (sym c.nodes.ensures.value) (task_nested c.args.task.now.table c.nodes.ensures.lawful)

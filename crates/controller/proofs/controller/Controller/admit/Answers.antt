@@ -27,13 +27,13 @@ pub returns-in-Ok : goal.returns-in-Ok
 returns-in-Ok g c =
     let order = c.args.self.now.order in
     let t = c.args.self.now.tables in
-    let u = c.keep-bounds.new.self in
+    let u = c.keep_bounds.new.self in
     let list = c.args.list.now in
-    let after = c.keep-bounds.new.list in
-    let n = c.keep-bounds.result in
+    let after = c.keep_bounds.new.list in
+    let n = c.keep_bounds.result in
     let o = meaning (g.O.Order.goes order) (g.O.Order.most order) in
-    let may = c.in-default.ensures in
-    let k = c.keep-bounds.ensures in
+    let may = c.in_default.ensures in
+    let k = c.keep_bounds.ensures in
     let does : Does o t (Admit list) (Ok n, after) u = (
       (may.0, (may.1, (may.2, ((c.in-Ok.bounds, c.in-Ok.ensures), tt)))),
       record {
@@ -55,16 +55,16 @@ returns-in-Ok g c =
       refused = tt;
     }
 
-pub returns-in-Err-bounds-under : goal.returns-in-Err-bounds-under
-returns-in-Err-bounds-under g c =
+pub returns-in-Err-bounds_under : goal.returns-in-Err-bounds_under
+returns-in-Err-bounds_under g c =
     let order = c.args.self.now.order in
     let t = c.args.self.now.tables in
     let list = c.args.list.now in
     let o = meaning (g.O.Order.goes order) (g.O.Order.most order) in
-    let may = c.in-default.ensures in
+    let may = c.in_default.ensures in
     let does : Does o t (Admit list) (Err NoBounds, list) t =
     record {
-      refused = record { away = inr (may.0, inr (may.1, inr (may.2, inl (c.in-Err-bounds-under.ensures.1, refl)))); unchanged = refl };
+      refused = record { away = inr (may.0, inr (may.1, inr (may.2, inl (c.in-Err-bounds_under.ensures.1, refl)))); unchanged = refl };
       list_unchanged = refl;
     } in
     record {

@@ -11,13 +11,13 @@ pub returns : goal.returns
 returns g c =
     let order = c.args.self.now.order in
     let t = c.args.self.now.tables in
-    let u = c.close-tick.new.self in
+    let u = c.close_tick.new.self in
     let o = meaning (g.O.Order.goes order) (g.O.Order.most order) in
-    let does = c.close-tick.ensures o in
+    let does = c.close_tick.ensures o in
     record {
-      kept = kept o (g.met.O.Order.orderly order) t (CloseTick c.args.outcomes.now) c.close-tick.result u does;
+      kept = kept o (g.met.O.Order.orderly order) t (CloseTick c.args.outcomes.now) c.close_tick.result u does;
       same = refl;
-      refused = on_refusal c.close-tick.result
+      refused = on_refusal c.close_tick.result
           (ap (λ (x : Tables). let y : Controller g.row.O.Denot = record { order = order; tables = x } in y))
-          (close_refused o t u c.args.outcomes.now c.close-tick.result does);
+          (close_refused o t u c.args.outcomes.now c.close_tick.result does);
     }

@@ -24,13 +24,13 @@ pub returns : goal.returns
 returns g c =
     let order = c.args.self.now.order in
     let t = c.args.self.now.tables in
-    let u = c.keep-spots.new.self in
+    let u = c.keep_spots.new.self in
     let list = c.args.list.now in
-    let after = c.keep-spots.new.list in
-    let n = c.keep-spots.result in
+    let after = c.keep_spots.new.list in
+    let n = c.keep_spots.result in
     let o = meaning (g.O.Order.goes order) (g.O.Order.most order) in
-    let may = c.in-default.ensures in
-    let k = c.keep-spots.ensures in
+    let may = c.in_default.ensures in
+    let k = c.keep_spots.ensures in
     let does : Does o t (OpenTick list) (Ok n, after) u = (
       (may.0, (may.1, tt)),
       record {

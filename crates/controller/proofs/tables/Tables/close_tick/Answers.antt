@@ -3,16 +3,16 @@ use Rattle.controller.proofs.Equal.{tables_equal}
 use Rattle.controller.proofs.Waiting.{as_many_wait}
 use Rattle.controller.proofs.tables.Tables.close_tick.Goals as goal
 
-pub returns-in-Some-first-wrong : goal.returns-in-Some-first-wrong
-returns-in-Some-first-wrong c =
+pub returns-in-Some-first_wrong : goal.returns-in-Some-first_wrong
+returns-in-Some-first_wrong c =
     λ o. record {
       away = inr (
         (c.in-Some.spots, c.in-Some.is),
         inr (
           omega arith,
           inl (
-            c.in-Some-first-wrong.core,
-            record { spots = c.in-Some.spots; ticking = c.in-Some.is; first = c.in-Some-first-wrong.ensures },
+            c.in-Some-first_wrong.core,
+            record { spots = c.in-Some.spots; ticking = c.in-Some.is; first = c.in-Some-first_wrong.ensures },
             refl,
           ),
         ),
@@ -22,6 +22,6 @@ returns-in-Some-first-wrong c =
 
 pub invariant-of-self-2 : goal.invariant-of-self-2
 invariant-of-self-2 c = (
-  (c.args.self.now.sized.0, c.close-ended.ensures.sixteen, ap length c.wait-a-tick.ensures ∙ as_many_wait c.args.self.now.waited ∙ c.args.self.now.sized.2),
+  (c.args.self.now.sized.0, c.close-ended.ensures.sixteen, ap length c.wait_a_tick.ensures ∙ as_many_wait c.args.self.now.waited ∙ c.args.self.now.sized.2),
   tt,
 )

@@ -20,7 +20,7 @@ returns c =
       kept = refl;
       told = sym (take-append-drop 16 c.loop-slot.list) ∙ ap (λ (x : List ℕ). x ++ drop 16 c.loop-slot.list) written
           ∙ ap (λ (x : List ℕ). c.args.bounds ++ x) c.loop-slot.invariant.1;
-      counted = c.tasks-held.ensures;
+      counted = c.tasks_held.ensures;
       same = record { same_plan = refl; same_held = refl };
       same_jobs = refl;
       same_waited = refl;

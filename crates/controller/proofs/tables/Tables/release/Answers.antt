@@ -6,17 +6,17 @@ use Rattle.controller.specs.State.{period}
 use Rattle.controller.proofs.Editing.{none_there, one_some, not_some, task_with_period}
 use Rattle.controller.proofs.tables.Tables.release.Goals as goal
 
-pub returns-in-default-bounds : goal.returns-in-default-bounds
-returns-in-default-bounds c =
+pub returns-in_default-bounds : goal.returns-in_default-bounds
+returns-in_default-bounds c =
     let p = task_with_period (task_at c.args.self.now.tasks c.args.slot) c.in-Some.period (sym c.in-Some.ensures) in
-    let quiet = not_some c.args.self.now.tick c.if-is-some.ensures in
-    λ o. record { away = inr (omega arith, inr (quiet, inr ((p.task, p.held), inl (c.in-default-bounds.is, refl)))); unchanged = refl }
+    let quiet = not_some c.args.self.now.tick c.if-is_some.ensures in
+    λ o. record { away = inr (omega arith, inr (quiet, inr ((p.task, p.held), inl (c.in_default-bounds.is, refl)))); unchanged = refl }
 
-pub returns-in-Some-ticks-to-go : goal.returns-in-Some-ticks-to-go
-returns-in-Some-ticks-to-go c =
+pub returns-in-Some-ticks_to_go : goal.returns-in-Some-ticks_to_go
+returns-in-Some-ticks_to_go c =
     let p = task_with_period (task_at c.args.self.now.tasks c.args.slot) c.in-Some.period (sym c.in-Some.ensures) in
-    let quiet = not_some c.args.self.now.tick c.if-is-some.ensures in
-    let w = c.in-Some-ticks-to-go.ensures in
+    let quiet = not_some c.args.self.now.tick c.if-is_some.ensures in
+    let w = c.in-Some-ticks_to_go.ensures in
     λ o. record {
       away = inr (
         omega arith,
@@ -27,7 +27,7 @@ returns-in-Some-ticks-to-go c =
             inr (
               (c.in-Some-bounds.bounds, c.in-Some-bounds.is),
               inl (
-                c.in-Some-ticks-to-go.to-go,
+                c.in-Some-ticks_to_go.to_go,
                 record { task = p.task; held = p.held; waited = w.0; since = w.1; short = omega (arith, w.2, p.long); left = omega (arith, w.3, p.long) },
                 refl,
               ),
@@ -38,10 +38,10 @@ returns-in-Some-ticks-to-go c =
       unchanged = refl;
     }
 
-pub returns-then-is-open : goal.returns-then-is-open
-returns-then-is-open c =
+pub returns-then-is_open : goal.returns-then-is_open
+returns-then-is_open c =
     let p = task_with_period (task_at c.args.self.now.tasks c.args.slot) c.in-Some.period (sym c.in-Some.ensures) in
-    let quiet = not_some c.args.self.now.tick c.if-is-some.ensures in
+    let quiet = not_some c.args.self.now.tick c.if-is_some.ensures in
     λ o. record {
       away = inr (
         omega arith,
@@ -52,8 +52,8 @@ returns-then-is-open c =
             inr (
               (c.in-Some-bounds.bounds, c.in-Some-bounds.is),
               inr (
-                λ τ w e f. omega (arith, c.in-default-ticks-to-go.ensures w f, p.long, ap period (one_some p.held e)),
-                inl (c.if-is-open.ensures, refl),
+                λ τ w e f. omega (arith, c.in_default-ticks_to_go.ensures w f, p.long, ap period (one_some p.held e)),
+                inl (c.if-is_open.ensures, refl),
               ),
             ),
           ),
@@ -65,7 +65,7 @@ returns-then-is-open c =
 pub returns : goal.returns
 returns c =
     let p = task_with_period (task_at c.args.self.now.tasks c.args.slot) c.in-Some.period (sym c.in-Some.ensures) in
-    let quiet = not_some c.args.self.now.tick c.if-is-some.ensures in
+    let quiet = not_some c.args.self.now.tick c.if-is_some.ensures in
     λ o. (
       (
         omega arith,
@@ -76,8 +76,8 @@ returns c =
             (
               (c.in-Some-bounds.bounds, c.in-Some-bounds.is),
               (
-                λ τ w e f. omega (arith, c.in-default-ticks-to-go.ensures w f, p.long, ap period (one_some p.held e)),
-                (none_there (job_at c.args.self.now.jobs c.args.slot) c.if-is-open.ensures, tt),
+                λ τ w e f. omega (arith, c.in_default-ticks_to_go.ensures w f, p.long, ap period (one_some p.held e)),
+                (none_there (job_at c.args.self.now.jobs c.args.slot) c.if-is_open.ensures, tt),
               ),
             ),
           ),

@@ -6,18 +6,18 @@ use Rattle.controller.specs.Effects.{Put}
 use Rattle.controller.proofs.Editing.{read_at, not_a_time}
 use Rattle.controller.proofs.tables.Tables.retime.Goals as goal
 
-pub returns-in-err-at : goal.returns-in-err-at
-returns-in-err-at c =
-    let p = err_from_is_err_and c.from-residual.result c.from-residual.ensures.1 in
+pub returns-in_err-at : goal.returns-in_err-at
+returns-in_err-at c =
+    let p = err_from_is_err_and c.from_residual.result c.from_residual.ensures.1 in
     rw (p.1, p.2) (λ o. record {
-      away = c.in-err-at.ensures o (slot_held c.args.slot ∷ node_exists c.args.slot c.args.node ∷ time_in_range c.args.time ∷ []);
+      away = c.in_err-at.ensures o (slot_held c.args.slot ∷ node_exists c.args.slot c.args.node ∷ time_in_range c.args.time ∷ []);
       unchanged = refl;
     })
 
 pub returns-then-node-nodes : goal.returns-then-node-nodes
 returns-then-node-nodes c =
-    let e = c.in-ok-at.ensures in
-    let held = read_at c.args.self.now.tasks c.in-ok-at.at c.args.slot c.index-self-at.result None (Some c.in-Some.before) e.0
+    let e = c.in_ok-at.ensures in
+    let held = read_at c.args.self.now.tasks c.in_ok-at.at c.args.slot c.index-self-at.result None (Some c.in-Some.before) e.0
     (omega (arith, e.0, e.1, c.args.self.now.sized.0)) c.in-Some.is in
     λ o. record {
       away = inr (
@@ -41,9 +41,9 @@ returns-then-node-nodes c =
 
 pub returns-in-Some-retimed : goal.returns-in-Some-retimed
 returns-in-Some-retimed c =
-    let e = c.in-ok-at.ensures in
+    let e = c.in_ok-at.ensures in
     let r = c.in-Some-retimed.ensures in
-    let held = read_at c.args.self.now.tasks c.in-ok-at.at c.args.slot c.index-self-at.result None (Some c.in-Some.before) e.0
+    let held = read_at c.args.self.now.tasks c.in_ok-at.at c.args.slot c.index-self-at.result None (Some c.in-Some.before) e.0
     (omega (arith, e.0, e.1, c.args.self.now.sized.0)) c.in-Some.is in
     λ o. (
       (e.1, (e.2, (e.3, ((c.in-Some.before, held), ((c.in-Some.before, held, r.0.is_node), ((r.0.some_time, r.0.short_time), tt)))))),
@@ -59,8 +59,8 @@ returns-in-Some-retimed c =
 
 pub returns-in-None : goal.returns-in-None
 returns-in-None c =
-    let e = c.in-ok-at.ensures in
-    let held = read_at c.args.self.now.tasks c.in-ok-at.at c.args.slot c.index-self-at.result None (Some c.in-Some.before) e.0
+    let e = c.in_ok-at.ensures in
+    let held = read_at c.args.self.now.tasks c.in_ok-at.at c.args.slot c.index-self-at.result None (Some c.in-Some.before) e.0
     (omega (arith, e.0, e.1, c.args.self.now.sized.0)) c.in-Some.is in
     let there : c.args.node < length (nodes_of c.in-Some.before.table) = omega (arith, c.if-node-nodes.false, ap length c.nodes.ensures.value) in
     λ o. record {

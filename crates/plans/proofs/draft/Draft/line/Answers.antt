@@ -5,19 +5,19 @@ use Rattle.plans.proofs.Spelled.{Slice}
 use Rattle.plans.proofs.Texts.{no_words, some_words, line_advances}
 use Rattle.plans.proofs.draft.Draft.line.Goals as goal
 
-pub returns-then-is-empty : goal.returns-then-is-empty
-returns-then-is-empty c = λ ps k.
+pub returns-then-is_empty : goal.returns-then-is_empty
+returns-then-is_empty c = λ ps k.
     let words = c.in-Ok.words in
     inl (
-      subst (λ (ws : List Word). Worded c.args.line.now ws) (no_words (vec_items words) (vec_len words) words.ok.0 c.if-is-empty.ensures) c.in-Ok.ensures,
+      subst (λ (ws : List Word). Worded c.args.line.now ws) (no_words (vec_items words) (vec_len words) words.ok.0 c.if-is_empty.ensures) c.in-Ok.ensures,
       k,
     )
 
-pub returns-in-Ok-statement-of : goal.returns-in-Ok-statement-of
-returns-in-Ok-statement-of c = λ ps k.
-    line_advances ps c.args.line.now c.args.number (texts (vec_items c.in-Ok.words)) (meaning c.in-Ok-statement-of.statement) _ c.take.result
+pub returns-in-Ok-statement_of : goal.returns-in-Ok-statement_of
+returns-in-Ok-statement_of c = λ ps k.
+    line_advances ps c.args.line.now c.args.number (texts (vec_items c.in-Ok.words)) (meaning c.in-Ok-statement_of.statement) _ c.take.result
     c.in-Ok.ensures
-    (subst (λ (ws : Slice). Makes (texts ws) (meaning c.in-Ok-statement-of.statement)) c.as-slice.ensures.value c.in-Ok-statement-of.ensures)
+    (subst (λ (ws : Slice). Makes (texts ws) (meaning c.in-Ok-statement_of.statement)) c.as_slice.ensures.value c.in-Ok-statement_of.ensures)
     (c.take.ensures ps k)
 
 pub returns : goal.returns
@@ -28,8 +28,8 @@ returns c = λ ps k.
         texts (vec_items words),
         c.in-Ok.ensures,
         inl (
-          some_words (vec_items words) (vec_len words) words.ok.0 c.if-is-empty.ensures,
-          λ s m. c.in-Err-statement-of.ensures s (subst (λ (ws : Slice). Makes (texts ws) s) (sym c.as-slice.ensures.value) m),
+          some_words (vec_items words) (vec_len words) words.ok.0 c.if-is_empty.ensures,
+          λ s m. c.in-Err-statement_of.ensures s (subst (λ (ws : Slice). Makes (texts ws) s) (sym c.as_slice.ensures.value) m),
         ),
       ),
     )

@@ -5,10 +5,10 @@ use Rattle.table.specs.declared.records.Table.{Table}
 use Rattle.table.specs.Format.{task, node, arc}
 use Rattle.table.proofs.records.Table.put.Goals as goal
 
-pub returns-in-ok-self : goal.returns-in-ok-self
-returns-in-ok-self c =
-    let h = c.in-ok-self.ensures in
-    record { it = task c.in-ok-self.field-0; kind_is = sym c.in-OfTask.is; in_range = h.1; bytes_are = h.0; after_is = refl }
+pub returns-in_ok-self : goal.returns-in_ok-self
+returns-in_ok-self c =
+    let h = c.in_ok-self.ensures in
+    record { it = task c.in_ok-self.field-0; kind_is = sym c.in-OfTask.is; in_range = h.1; bytes_are = h.0; after_is = refl }
 
 with_nodes : Table → NodeList → Table
 with_nodes t ns = record { timing = t.timing; nodes = ns; arcs = t.arcs }
@@ -16,24 +16,24 @@ with_nodes t ns = record { timing = t.timing; nodes = ns; arcs = t.arcs }
 with_arcs : Table → ArcList → Table
 with_arcs t arcs = record { timing = t.timing; nodes = t.nodes; arcs = arcs }
 
-pub returns-in-ok-node : goal.returns-in-ok-node
+pub returns-in_ok-node : goal.returns-in_ok-node
 unfolding with_nodes
-returns-in-ok-node c =
-    let h = c.in-ok-node.ensures in
+returns-in_ok-node c =
+    let h = c.in_ok-node.ensures in
     record {
-      it = node c.in-ok-node.node;
+      it = node c.in_ok-node.node;
       kind_is = sym c.in-OfNode.is;
       in_range = h.1;
       bytes_are = h.0;
       after_is = ap (with_nodes c.args.self.now) c.push.ensures;
     }
 
-pub returns-in-ok-arc : goal.returns-in-ok-arc
+pub returns-in_ok-arc : goal.returns-in_ok-arc
 unfolding with_arcs
-returns-in-ok-arc c =
-    let h = c.in-ok-arc.ensures in
+returns-in_ok-arc c =
+    let h = c.in_ok-arc.ensures in
     record {
-      it = arc c.in-ok-arc.arc;
+      it = arc c.in_ok-arc.arc;
       kind_is = sym c.in-OfArc.is;
       in_range = h.1;
       bytes_are = h.0;

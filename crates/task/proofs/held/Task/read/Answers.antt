@@ -15,11 +15,11 @@ listed P ns ms arcs bs e f p = subst (λ (l : List Arc). P ms l) f (subst (λ (l
 pub returns-in-Err : goal.returns-in-Err
 returns-in-Err c = told_unsound c.args.bytes.now c.in-Err.fault c.in-Err.ensures
 
-pub check-shape-requires : goal.check-shape-requires
-check-shape-requires c =
+pub check_shape-requires : goal.check_shape-requires
+check_shape-requires c =
     let table = c.in-Ok.table in
-    listed Ranged (nodes_of table) c.as-slice.result.now (arcs_of table) c.as-slice-2.result.now
-    (sym c.as-slice.ensures) (sym c.as-slice-2.ensures)
+    listed Ranged (nodes_of table) c.as_slice.result.now (arcs_of table) c.as_slice-2.result.now
+    (sym c.as_slice.ensures) (sym c.as_slice-2.ensures)
     (ranged table.timing (nodes_of table) (arcs_of table) (encoded_lawful c.args.bytes.now table c.in-Ok.ensures.right))
 
 pub invariant-of-result : goal.invariant-of-result
@@ -27,23 +27,23 @@ invariant-of-result c =
     let table = c.in-Ok.table in (
       ∣ record {
         in_range = encoded_lawful c.args.bytes.now table c.in-Ok.ensures.right;
-        shaped = listed Shaped c.as-slice.result.now (nodes_of table) c.as-slice-2.result.now (arcs_of table)
-            c.as-slice.ensures c.as-slice-2.ensures c.in-Ok-check-shape.ensures;
+        shaped = listed Shaped c.as_slice.result.now (nodes_of table) c.as_slice-2.result.now (arcs_of table)
+            c.as_slice.ensures c.as_slice-2.ensures c.in-Ok-check_shape.ensures;
       } ∣₁,
       tt,
     )
 
-pub returns-in-Ok-check-shape : goal.returns-in-Ok-check-shape
-returns-in-Ok-check-shape c =
+pub returns-in-Ok-check_shape : goal.returns-in-Ok-check_shape
+returns-in-Ok-check_shape c =
     let table = c.in-Ok.table in
     told_taken c.args.bytes.now table c.in-Ok.ensures
-    (listed Shaped c.as-slice.result.now (nodes_of table) c.as-slice-2.result.now (arcs_of table)
-    c.as-slice.ensures c.as-slice-2.ensures c.in-Ok-check-shape.ensures)
+    (listed Shaped c.as_slice.result.now (nodes_of table) c.as_slice-2.result.now (arcs_of table)
+    c.as_slice.ensures c.as_slice-2.ensures c.in-Ok-check_shape.ensures)
 
-pub returns-in-Err-check-shape : goal.returns-in-Err-check-shape
-returns-in-Err-check-shape c =
+pub returns-in-Err-check_shape : goal.returns-in-Err-check_shape
+returns-in-Err-check_shape c =
     let table = c.in-Ok.table in
-    let b = c.in-Err-check-shape.broken in
+    let b = c.in-Err-check_shape.broken in
     told_misshapen c.args.bytes.now table b c.in-Ok.ensures
-    (listed (λ ns arcs. BrokenAt ns arcs b.rule b.at) c.as-slice.result.now (nodes_of table) c.as-slice-2.result.now (arcs_of table)
-    c.as-slice.ensures c.as-slice-2.ensures c.in-Err-check-shape.ensures)
+    (listed (λ ns arcs. BrokenAt ns arcs b.rule b.at) c.as_slice.result.now (nodes_of table) c.as_slice-2.result.now (arcs_of table)
+    c.as_slice.ensures c.as_slice-2.ensures c.in-Err-check_shape.ensures)

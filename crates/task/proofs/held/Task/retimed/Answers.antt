@@ -7,13 +7,13 @@ use Rattle.task.proofs.held.Task.retimed.Goals as goal
 pub bounds-table-node : goal.bounds-table-node
 bounds-table-node c =
     let few = (lawful_task c.args.self.table c.args.self.lawful).in_range.few_nodes in
-    omega (arith, ap length c.as-slice.ensures, c.if-node-as-slice.false)
+    omega (arith, ap length c.as_slice.ensures, c.if-node-as_slice.false)
 
 pub invariant-of-result : goal.invariant-of-result
 invariant-of-result c =
     let table = c.args.self.table in
     let can : CanRetime table c.args.node c.args.time = record {
-      is_node = omega (arith, ap length c.as-slice.ensures, c.if-node-as-slice.false);
+      is_node = omega (arith, ap length c.as_slice.ensures, c.if-node-as_slice.false);
       some_time = c.if-time-lt1.false;
       short_time = c.if-time-gt65535.false;
     } in
