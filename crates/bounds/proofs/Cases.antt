@@ -6,10 +6,10 @@ use Rattle.bounds.specs.Equation.{sum_to}
 use Rattle.bounds.specs.Cases.{CasesRight}
 use Rattle.bounds.proofs.Climb.{by_climb, by_passing}
 
-fixed : Orderly smaller_slot slot_cap
+pub fixed : Orderly smaller_slot slot_cap
 fixed = search rules
 
-free : Orderly any_job no_cap
+pub free : Orderly any_job no_cap
 free = search rules
 
 pub cases_right_lem : CasesRight

@@ -11,5 +11,5 @@ returns-in-Some c =
     let s =
     share_other (kept c.args.caps.now c.args.k) c.args.plan.now c.args.bounds.now c.args.k c.args.i
     (Some c.in-Some.e) (λ e. omega arith) h in
-    let t = c.work_ahead_of.ensures.value in
+    let t = c.work_ahead.ensures.value in
     record { value = cc; small = omega arith }

@@ -12,5 +12,5 @@ returns-in-len4 c = region_of_branch c.args.words.now c.branch_in.result (search
 pub returns-in_default : goal.returns-in_default
 returns-in_default c = region_uncounted c.args.words.now (search rules) (search rules)
 
-pub returns-in-default·2 : goal.returns-in-default·2
-returns-in-default·2 c = region_uncounted c.args.words.now (search rules) (search rules)
+pub returns-in_default-2 : goal.returns-in_default-2
+returns-in_default-2 c = region_uncounted c.args.words.now (search rules) (search rules)

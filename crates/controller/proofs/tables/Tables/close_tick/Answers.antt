@@ -20,8 +20,8 @@ returns-in-Some-first_wrong c =
       unchanged = tables_equal _ c.args.self.now refl refl refl refl refl refl;
     }
 
-pub invariant-of-self-2 : goal.invariant-of-self-2
-invariant-of-self-2 c = (
+pub invariant_of-self-2 : goal.invariant_of-self-2
+invariant_of-self-2 c = (
   (c.args.self.now.sized.0, c.close-ended.ensures.sixteen, ap length c.wait_a_tick.ensures ∙ as_many_wait c.args.self.now.waited ∙ c.args.self.now.sized.2),
   tt,
 )

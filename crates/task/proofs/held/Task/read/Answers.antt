@@ -22,16 +22,16 @@ check_shape-requires c =
     (sym c.as_slice.ensures) (sym c.as_slice-2.ensures)
     (ranged table.timing (nodes_of table) (arcs_of table) (encoded_lawful c.args.bytes.now table c.in-Ok.ensures.right))
 
-pub invariant-of-result : goal.invariant-of-result
-invariant-of-result c =
-    let table = c.in-Ok.table in (
-      ∣ record {
+pub invariant_of-result : goal.invariant_of-result
+invariant_of-result c =
+    let table = c.in-Ok.table in
+    record {
+      lawful = ∣ record {
         in_range = encoded_lawful c.args.bytes.now table c.in-Ok.ensures.right;
         shaped = listed Shaped c.as_slice.result.now (nodes_of table) c.as_slice-2.result.now (arcs_of table)
             c.as_slice.ensures c.as_slice-2.ensures c.in-Ok-check_shape.ensures;
-      } ∣₁,
-      tt,
-    )
+      } ∣₁;
+    }
 
 pub returns-in-Ok-check_shape : goal.returns-in-Ok-check_shape
 returns-in-Ok-check_shape c =

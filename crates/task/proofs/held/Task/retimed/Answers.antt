@@ -9,12 +9,12 @@ bounds-table-node c =
     let few = (lawful_task c.args.self.table c.args.self.lawful).in_range.few_nodes in
     omega (arith, ap length c.as_slice.ensures, c.if-node-as_slice.false)
 
-pub invariant-of-result : goal.invariant-of-result
-invariant-of-result c =
+pub invariant_of-result : goal.invariant_of-result
+invariant_of-result c =
     let table = c.args.self.table in
     let can : CanRetime table c.args.node c.args.time = record {
       is_node = omega (arith, ap length c.as_slice.ensures, c.if-node-as_slice.false);
       some_time = c.if-time-lt1.false;
       short_time = c.if-time-gt65535.false;
     } in
-    (∣ retimed_task table c.args.node c.args.time can (lawful_task table c.args.self.lawful) ∣₁, tt)
+    record { lawful = ∣ retimed_task table c.args.node c.args.time can (lawful_task table c.args.self.lawful) ∣₁ }
