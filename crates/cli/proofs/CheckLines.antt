@@ -11,11 +11,11 @@ use Rattle.cli.specs.declared.commands.Misuse.{Misuse}
 use Rattle.cli.specs.declared.commands.Misuse.TheVariants.{NoCommand, Unknown, NoFile, NotOneFile}
 
 -- the first word asks for it, and the files are the words after that
-pub check-line
+pub check_line
     : (words : List (String Global)) (first : String Global) (files : Bor (List (String Global))) → 1 ≤ length words → first ≡ get_or words 0 first → AsksCheck (string_bytes first) → files.now ≡ take (length words - 1) (drop 1 words) → eqb (length files.now) 0 ≡ false → Parsed words (Ok (Check files))
-check-line [] first files some is asks part full =
+check_line [] first files some is asks part full =
     absurd (omega (arith, some))
-check-line (w ∷ ws) first files some is asks part full =
+check_line (w ∷ ws) first files some is asks part full =
     let same : files.now ≡ ws = part ∙ take_all (length (w ∷ ws) - 1) ws (omega arith) in
     let more : length files.now ≡ length ws = ap length same in
     let ne : length files.now ≡ 0 → ⊥ = eqb-false (length files.now) 0 full in

@@ -89,7 +89,7 @@ pub fn parse(words: &[String]) -> Result<Command<'_>, Misuse<'_>>
 
 // A plan is one file.
 fn one_file(files: &[String]) -> Result<Command<'_>, Misuse<'_>>
-    ensures { One-file files.now result }
+    ensures { OneFile files.now result }
 {
     match files {
         [file] => Ok(Command::Plan {

@@ -21,7 +21,6 @@ returns-in-Some-first_wrong c =
     }
 
 pub invariant_of-self-2 : goal.invariant_of-self-2
-invariant_of-self-2 c = (
-  (c.args.self.now.sized.0, c.close-ended.ensures.sixteen, ap length c.wait_a_tick.ensures ∙ as_many_wait c.args.self.now.waited ∙ c.args.self.now.sized.2),
-  tt,
-)
+invariant_of-self-2 c = record {
+  sized = (c.args.self.now.sized.0, c.close-ended.ensures.sixteen, ap length c.wait_a_tick.ensures ∙ as_many_wait c.args.self.now.waited ∙ c.args.self.now.sized.2);
+}
