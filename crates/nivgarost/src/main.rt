@@ -2,18 +2,16 @@
 #![tactic(auto)]
 
 use cli::run::run;
+use std::process::ExitCode;
 
-// Ends the program with status 1. What went wrong has been told by then.
-#[derive(Drop)]
-struct Failure;
-
-fn main(rt: HostRuntime) -> Result<(), Failure> {
+// The status is 1 where something went wrong. It has been told by then.
+fn main(rt: HostRuntime) -> ExitCode {
     match run(&rt) {
-        Ok(true) => Ok(()),
-        Ok(false) => Err(Failure),
+        Ok(true) => ExitCode::SUCCESS,
+        Ok(false) => ExitCode::FAILURE,
         Err(error) => {
             let _ = eprintln!(rt; "nivgarost: {error}");
-            Err(Failure)
+            ExitCode::FAILURE
         }
     }
 }

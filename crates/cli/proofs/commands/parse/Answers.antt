@@ -7,4 +7,4 @@ returns-in-Some-Check-2 c = check_line _ c.first-item.result _ (search rules) c.
 
 pub returns-in-Some-Plan : goal.returns-in-Some-Plan
 returns-in-Some-Plan c =
-    plan_line c.args.words.now c.first-item.result c.one-file.result (search rules) c.first-item.is (search rules) c.one-file.ensures
+    plan_line c.args.words.now c.first-item.result c.one_file.result (search rules) c.first-item.is (search rules) c.one_file.ensures
