@@ -1,5 +1,5 @@
 -- Tasks that are the same ask for the same.
-use Rattle.std.proofs.Common.{◌≡◌, ℕ, ◌<◌, List, Some, None, Option, sym, refl, ◌∙◌, subst}
+use Rattle.std.proofs.Common.{ℕ, List, Some, None, Option, sym, refl, ◌∙◌, subst}
 use Rattle.bounds.specs.declared.plan.Demand.{Demand}
 use Rattle.bounds.specs.Equation.{held, SameDemand}
 use Rattle.bounds.proofs.Same.{same_answer}
@@ -9,7 +9,7 @@ use Rattle.table.specs.declared.records.Table.{Table}
 use Rattle.task.specs.Graph.{Joined}
 use Rattle.task.specs.Held.{nodes_of, arcs_of}
 use Rattle.paths.specs.Paths.{Path, end, step, first, Chain}
-use Rattle.workload.specs.Measures.{PathOf, PathTaken, IsGreatestLength, IsGreatestTotal}
+use Rattle.workload.specs.Measures.{PathTaken, IsGreatestLength, IsGreatestTotal}
 use Rattle.workload.proofs.Paths.{one_greatest_lem}
 use Rattle.admission.specs.Demands.{Demands}
 use Rattle.admission.specs.Same.{SameArcs, SameTask, SameSlot, SlotDemands, SameTasksAskTheSame, SameTasksSameBounds}

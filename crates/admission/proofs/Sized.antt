@@ -1,5 +1,5 @@
 -- The numbers of a lawful task are in the range of a demand.
-use Rattle.std.proofs.Common.{◌≡◌, ℕ, zero, suc, ◌+◌, ◌*◌, ◌<◌, ◌≤◌, Bool, true, false, cond, List, length, sym, refl, ap, ◌∙◌, arith}
+use Rattle.std.proofs.Common.{◌≡◌, ℕ, zero, suc, ◌+◌, ◌*◌, ◌≤◌, Bool, true, false, cond, List, length, ap, arith}
 use native.Mathlib.Decide.{dec_lt}
 use Rattle.table.specs.declared.records.Arc.{Arc}
 use Rattle.table.specs.declared.records.Node.{Node}
@@ -7,7 +7,7 @@ use Rattle.task.specs.Graph.{time, IsNode, Joined, Ranged}
 use Rattle.task.specs.Shape.{Shaped}
 use Rattle.paths.specs.Instances.{path_ticks}
 use Rattle.paths.specs.Paths.{Path, end, step, first, Each, Chain}
-use Rattle.workload.specs.Measures.{sum_below, taken_time, total, PathTaken, IsGreatestLength, IsGreatestTotal}
+use Rattle.workload.specs.Measures.{sum_below, taken_time, total, IsGreatestLength, IsGreatestTotal}
 use Rattle.workload.specs.Settling.{takes, Takes}
 use Rattle.workload.proofs.Paths.{paths_settle_lem}
 

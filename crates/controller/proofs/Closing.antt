@@ -1,5 +1,5 @@
 -- A tick is closed: what holds between calls goes on to hold.
-use Rattle.std.proofs.Common.{◌≡◌, ℕ, zero, suc, ◌+◌, ◌-◌, ◌/◌, ◌%◌, ◌^◌, ◌<◌, ◌≤◌, min, Bool, true, false, cond, eqb, ◌⊎◌, List, [], ◌∷◌, ◌++◌, map, length, get_or, replicate, Some, None, Ok, Option, sym, refl, ap, ◌∙◌, subst, inl, inr, arith}
+use Rattle.std.proofs.Common.{◌≡◌, ℕ, suc, ◌+◌, ◌/◌, ◌%◌, ◌^◌, ◌<◌, ◌≤◌, min, Bool, true, false, cond, eqb, ◌⊎◌, List, [], ◌∷◌, ◌++◌, map, length, replicate, Some, None, Ok, Option, sym, refl, ap, ◌∙◌, subst, inl, inr, arith}
 use Rattle.std.proofs.lemmas.Bool.Decides.{nat_tests}
 use Rattle.std.specs.List.{AllByRecursion as All}
 use Rattle.task.specs.declared.held.Task.{Task}
@@ -7,28 +7,27 @@ use Rattle.task.specs.Held.{nodes_of, arcs_of}
 use Rattle.task.proofs.Recovered.{lawful_task}
 use Rattle.bounds.specs.declared.plan.Demand.{Demand}
 use Rattle.bounds.specs.Equation.{bound, held}
-use Rattle.held_jobs.specs.declared.node_state.NodeState.{NodeState}
 use Rattle.held_jobs.specs.Job.{JobEnded, Outcome, after}
 use Rattle.held_jobs.proofs.Ended.{t_job_ended}
 use Rattle.runs.specs.Jobs.{Turn}
 use Rattle.runs.specs.Run.{Done, Slot, idle, busy, State, turns_for, settle, work, tick, Run, ticked}
 use Rattle.runs.specs.Statements.{TimelySlot}
 use Rattle.runs.specs.System.{System}
-use Rattle.response.specs.Jobs.{JobState, outcome_in, graph_jobs, advance}
+use Rattle.response.specs.Jobs.{JobState, outcome_in, advance}
 use Rattle.response.proofs.Laws.{true_ended, ended_true}
 use Rattle.response.proofs.Turns.{after_same}
 use Rattle.dispatch.specs.declared.job.Job.{Job}
 use Rattle.dispatch.specs.declared.spot.Spot.{Spot}
-use Rattle.dispatch.specs.Closing.{outcome_of, states_after, Bit, AllRight, ClosedSlot, Closed, Ends, Stays, Unmoved}
-use Rattle.dispatch.specs.Tables.{task_at, job_at, task_nodes, task_arcs}
+use Rattle.dispatch.specs.Closing.{outcome_of, states_after, Bit, AllRight, ClosedSlot, Ends, Stays, Unmoved}
+use Rattle.dispatch.specs.Tables.{task_nodes, task_arcs}
 use Rattle.controller.specs.declared.tables.Tables.{Tables}
-use Rattle.controller.specs.Book.{Entry, ToldTask, HoldsTold, Line, EndedInTime, one_seen, bit_set_lem, on_close, entered}
+use Rattle.controller.specs.Book.{Entry, ToldTask, HoldsTold, Line, EndedInTime, one_seen, bit_set_lem, entered}
 use Rattle.controller.specs.Calls.{CloseTick}
 use Rattle.controller.specs.Effects.{one_more, TickClosed}
-use Rattle.controller.specs.State.{Meaning, cores, table_in, task_in, job_in, waited_in, deadline}
-use Rattle.controller.proofs.Cores.{places, turns_bring}
-use Rattle.controller.proofs.Editing.{one_some, some_not_none}
-use Rattle.controller.proofs.Epoch.{table_or, tables_of, system, Since, SameJob, SameSlot, Parts, parts, waited_at, Running, Resting, EpochBy, Epoch, PlacedBy, Sound}
+use Rattle.controller.specs.State.{Meaning, cores, table_in, task_in, job_in, waited_in}
+use Rattle.controller.proofs.Cores.{turns_bring}
+use Rattle.controller.proofs.Editing.{some_not_none}
+use Rattle.controller.proofs.Epoch.{table_or, tables_of, system, Since, SameJob, SameSlot, Parts, parts, Running, Resting, EpochBy, Epoch, PlacedBy, Sound}
 use Rattle.controller.proofs.InTime.{LawfulOrder, asking_at, run_timely, is_there}
 use Rattle.controller.proofs.Releasing.{kept_exact, kept_told, kept_due, parts_are, all_weaker}
 use Rattle.controller.proofs.Ticking.{tick_places, may_tick_lem}

@@ -1,5 +1,5 @@
 -- A task enters, leaves or is retimed while no job is open: what holds between calls goes on to hold.
-use Rattle.std.proofs.Common.{◌≡◌, ℕ, ◌+◌, ◌<◌, ◌≤◌, Bool, true, false, cond, eqb, ◌≢◌, ◌⊎◌, List, [], ◌∷◌, length, get_or, set, is_some, Some, None, Ok, Err, Option, sym, refl, ap, ◌∙◌, subst, inl, inr, arith, get_or-set_other, get_or-set_same}
+use Rattle.std.proofs.Common.{◌≡◌, ℕ, ◌<◌, ◌≤◌, Bool, true, false, cond, eqb, ◌≢◌, ◌⊎◌, List, [], length, get_or, set, is_some, Some, None, Ok, Option, sym, refl, ap, ◌∙◌, subst, inl, inr, arith, get_or-set_other, get_or-set_same}
 use Rattle.std.proofs.lemmas.List.{get_or_default}
 use Rattle.std.proofs.lemmas.Bool.{cases_eq, cases_lt}
 use Rattle.std.proofs.lemmas.Bool.Decides.{nat_tests}
@@ -12,17 +12,16 @@ use Rattle.admission.specs.Same.{SlotDemands}
 use Rattle.runs.specs.Run.{Slot, idle, busy}
 use Rattle.response.specs.Jobs.{JobState}
 use Rattle.dispatch.specs.declared.job.Job.{Job}
-use Rattle.dispatch.specs.declared.spot.Spot.{Spot}
-use Rattle.dispatch.specs.Tables.{task_at, job_at}
+use Rattle.dispatch.specs.Tables.{job_at}
 use Rattle.controller.specs.declared.tables.Tables.{Tables}
-use Rattle.controller.specs.Book.{Entry, ToldTask, HoldsTold, Line, EndedInTime, entered, on_add, on_remove, on_retime}
+use Rattle.controller.specs.Book.{ToldTask, HoldsTold, Line, EndedInTime, entered, on_add, on_remove, on_retime}
 use Rattle.controller.specs.Calls.{Add, Remove, Retime}
 use Rattle.controller.specs.Effects.{Edited, Put, Added, Removed, Retimed}
 use Rattle.controller.specs.Promise.{Exact, AsTold}
 use Rattle.controller.specs.State.{Meaning, table_of, task_in, period, deadline, NoneOpen}
 use Rattle.controller.specs.Steps.{period_at}
 use Rattle.controller.proofs.Deadlines.{deadline_is_told}
-use Rattle.controller.proofs.Epoch.{SameSlot, Parts, parts, waited_at, Resting, EpochBy, Sound}
+use Rattle.controller.proofs.Epoch.{SameSlot, Parts, parts, waited_at, EpochBy, Sound}
 
 pub some_not_none : {X : Type 0} {x : X} {o : Option X} → o ≡ Some x → o ≡ None → ⊥
 some_not_none e f = let z : ◌≡◌ {A = ℕ} 0 1 = cc in omega arith

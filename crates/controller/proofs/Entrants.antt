@@ -1,17 +1,16 @@
 -- Among the open jobs as the order sees them, those go ahead that do among the jobs.
-use Rattle.std.proofs.Common.{◌≡◌, ℕ, ◌<◌, true, ◌⊎◌, List, get_or, ℤ, pos, ◌-ℤ◌, Some, None, Option, sym, refl, ap, ◌∙◌, subst, inl, inr, arith}
+use Rattle.std.proofs.Common.{◌≡◌, ℕ, ◌<◌, true, List, pos, ◌-ℤ◌, Some, None, Option, sym, refl, ap, ◌∙◌, subst, inl, inr, arith}
 use Rattle.sets.specs.declared.bit_set.BitSet.{BitSet}
 use Rattle.sets.specs.Sets.{Marks}
 use Rattle.sets.proofs.Marked.{marks_like}
 use Rattle.task.specs.declared.held.Task.{Task}
 use Rattle.dispatch.specs.declared.job.Job.{Job}
 use Rattle.dispatch.specs.declared.spot.Spot.{Spot}
-use Rattle.dispatch.specs.Placing.{Placed}
-use Rattle.dispatch.specs.Tables.{task_at, job_at, row, ReadyIn, KeptIn, AheadIn, Places}
+use Rattle.dispatch.specs.Tables.{task_at, job_at, Places}
 use Rattle.dispatch.proofs.Alike.{placed_alike}
 use Rattle.controller.specs.declared.precedence.Entrant.{Entrant}
-use Rattle.controller.specs.Ahead.{FirstOfTwo, AheadAmong}
-use Rattle.controller.specs.State.{Meaning, party, GoesFirst, GoesAhead}
+use Rattle.controller.specs.Ahead.{AheadAmong}
+use Rattle.controller.specs.State.{Meaning, party, GoesAhead}
 use Rattle.controller.specs.Steps.{entrant, entrants_are, Precedence}
 use Rattle.controller.proofs.Epoch.{PlacedBy}
 

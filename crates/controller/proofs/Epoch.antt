@@ -1,5 +1,5 @@
 -- What holds of a controller between two calls: while its tasks are admitted, they have come by a run of their plan to where they are.
-use Rattle.std.proofs.Common.{◌≡◌, ℕ, ◌+◌, ◌<◌, ◌≤◌, List, [], ◌∷◌, length, get_or, Some, None, Option}
+use Rattle.std.proofs.Common.{◌≡◌, ℕ, ◌+◌, ◌<◌, ◌≤◌, List, [], ◌∷◌, get_or, Some, None, Option}
 use Rattle.std.specs.List.{AllByRecursion as All}
 use Rattle.table.specs.declared.records.Table.{Table}
 use Rattle.table.specs.Whole.{held as table_held, no_timing}

@@ -1,16 +1,13 @@
 -- Structs with an invariant are equal where their fields are: an invariant is a proposition.
-use Rattle.std.proofs.Common.{◌≡◌, ℕ, ◌≤◌, List, length, Option, sym, refl, ap, ◌∙◌, subst}
+use Rattle.std.proofs.Common.{◌≡◌, ℕ, ◌≤◌, length}
 use mathlib.Core.HLevel.{is_prop→PathP}
 use mathlib.Core.Logic.{∥∥₁_prop}
 use native.Mathlib.Bridge.{le_prop}
 use native.Mathlib.Nat.{ℕ_set}
-use Rattle.table.specs.declared.records.Table.{Table}
 use Rattle.task.specs.declared.held.Task.{Task}
 use Rattle.task.specs.Held.{LawfulTask}
 use Rattle.bounds.specs.declared.plan.Demand.{Demand}
 use Rattle.bounds.specs.declared.plan.Plan.{Plan}
-use Rattle.dispatch.specs.declared.job.Job.{Job}
-use Rattle.dispatch.specs.declared.spot.Spot.{Spot}
 use Rattle.controller.specs.declared.tables.Tables.{Tables}
 
 pub task_equal : (a b : Task) → a.table ≡ b.table → a ≡ b

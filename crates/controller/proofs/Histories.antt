@@ -1,19 +1,16 @@
 -- What holds between calls holds after every history, and so do the promises.
-use Rattle.std.proofs.Common.{◌≡◌, ℕ, ◌<◌, Bool, true, false, cond, eqb, ◌⊎◌, List, [], ◌∷◌, get_or, replicate, Some, None, Ok, Err, Option, sym, refl, ap, ◌∙◌, subst, inl, inr, arith}
+use Rattle.std.proofs.Common.{◌≡◌, ℕ, ◌<◌, Bool, true, false, cond, eqb, List, [], ◌∷◌, get_or, replicate, None, Ok, Err, Option, sym, refl, ap, ◌∙◌, subst}
 use mathlib.Core.Path.{fun_ext}
 use Rattle.std.proofs.lemmas.List.{get_or-replicate}
 use Rattle.task.specs.declared.held.Task.{Task}
-use Rattle.bounds.specs.declared.plan.Demand.{Demand}
 use Rattle.bounds.specs.Equation.{held}
 use Rattle.admission.specs.Same.{SlotDemands}
-use Rattle.dispatch.specs.declared.job.Job.{Job}
-use Rattle.dispatch.specs.Tables.{task_at, job_at}
 use Rattle.controller.specs.declared.tables.Tables.{Tables}
-use Rattle.controller.specs.Book.{Line, blank, entered, book}
+use Rattle.controller.specs.Book.{Line, entered, book}
 use Rattle.controller.specs.Calls.{Call, Add, Remove, Retime, Admit, Release, OpenTick, CloseTick, Share, Answer, Event}
 use Rattle.controller.specs.Does.{Does, Opened, History, opened, called}
 use Rattle.controller.specs.Promise.{Kept}
-use Rattle.controller.specs.State.{Meaning, table_of, task_in}
+use Rattle.controller.specs.State.{Meaning, table_of}
 use Rattle.controller.proofs.Closing.{closed_sound}
 use Rattle.controller.proofs.Editing.{added_sound, removed_sound, retimed_sound, some_not_none}
 use Rattle.controller.proofs.Epoch.{parts, EpochBy, Sound}

@@ -1,8 +1,7 @@
 -- While what holds between calls holds, every job is in time.
-use Rattle.std.proofs.Common.{◌≡◌, ℕ, ◌+◌, ◌<◌, ◌≤◌, true, List, [], ◌∷◌, length, Some, None, Option, sym, refl, ap, ◌∙◌, subst, arith}
+use Rattle.std.proofs.Common.{◌≡◌, ℕ, ◌<◌, true, List, Some, None, Option, sym, refl, ap, subst, arith}
 use Rattle.std.specs.List.{AllByRecursion as All}
 use Rattle.order.specs.Laws.{Orderly}
-use Rattle.table.specs.declared.records.Table.{Table}
 use Rattle.task.specs.declared.held.Task.{Task}
 use Rattle.task.specs.Held.{LawfulTask}
 use Rattle.task.proofs.Recovered.{lawful_task}
@@ -10,20 +9,20 @@ use Rattle.bounds.specs.declared.plan.Demand.{Demand}
 use Rattle.bounds.specs.declared.plan.Plan.{Plan}
 use Rattle.bounds.specs.Equation.{bound, held, Solves}
 use Rattle.admission.specs.Demands.{Demands}
-use Rattle.admission.specs.Same.{SlotDemands, PlanOf}
+use Rattle.admission.specs.Same.{SlotDemands}
 use Rattle.runs.specs.System.{Held}
 use Rattle.runs.specs.Run.{Slot, idle, busy, State, start, Run}
 use Rattle.runs.specs.Statements.{Timely, TimelySlot}
 use Rattle.response.specs.Jobs.{JobState}
 use Rattle.response.specs.Statements.{Planned}
-use Rattle.response.specs.System.{there, system_of}
+use Rattle.response.specs.System.{there}
 use Rattle.response.proofs.InTime.{plans_respond_lem}
 use Rattle.dispatch.specs.declared.job.Job.{Job}
 use Rattle.dispatch.specs.Tables.{task_at, job_at}
 use Rattle.controller.specs.declared.tables.Tables.{Tables}
 use Rattle.controller.specs.Book.{Entry, Line, OpenInTime, InTime}
-use Rattle.controller.specs.State.{Meaning, table_of, deadline}
-use Rattle.controller.proofs.Epoch.{table_or, tables_of, system, Since, SameJob, SameSlot, Parts, parts, waited_at, Running, Resting, EpochBy, Sound}
+use Rattle.controller.specs.State.{Meaning, table_of}
+use Rattle.controller.proofs.Epoch.{table_or, tables_of, system, SameSlot, parts, waited_at, EpochBy, Sound}
 
 -- the order keeps its laws
 abbrev pub LawfulOrder : Meaning → Type 0

@@ -1,5 +1,5 @@
 -- A call has one outcome only: one answer, and one state of the tables after it.
-use Rattle.std.proofs.Common.{◌≡◌, ℕ, zero, suc, ◌-◌, ◌<◌, ◌≤◌, Bool, true, false, ◌≢◌, ◌⊎◌, List, [], ◌∷◌, ◌++◌, map, length, get_or, drop, set, Some, None, Ok, Err, Option, Result, sym, refl, ap, ◌∙◌, subst, inl, inr, arith}
+use Rattle.std.proofs.Common.{◌≡◌, ℕ, ◌-◌, ◌<◌, ◌≤◌, Bool, true, false, ◌⊎◌, List, [], ◌∷◌, ◌++◌, length, get_or, drop, set, Some, None, Ok, Err, Option, Result, sym, refl, ap, ◌∙◌, subst, inl, inr, arith}
 use Rattle.std.proofs.lemmas.List.{ext_get_or}
 use Rattle.std.proofs.lemmas.Bool.{cases_lt}
 use Rattle.sets.specs.Tests.{FailsFirst, Says}
@@ -12,12 +12,11 @@ use Rattle.admission.specs.Demands.{Demands}
 use Rattle.admission.proofs.Same.{same_tasks_ask_the_same_lem}
 use Rattle.bounds.specs.declared.plan.Demand.{Demand}
 use Rattle.bounds.specs.declared.plan.Plan.{Plan}
-use Rattle.bounds.specs.Equation.{bound, held, Caps, SameDemand, SamePlan, Least, Solves}
+use Rattle.bounds.specs.Equation.{bound, held, Caps, SameDemand, Least}
 use Rattle.bounds.proofs.Same.{same_answer}
-use Rattle.dispatch.specs.declared.job.Job.{Job}
 use Rattle.dispatch.specs.declared.spot.Spot.{Spot}
 use Rattle.dispatch.specs.Closing.{RightOn}
-use Rattle.dispatch.specs.Spots.{told, spot_at, Written}
+use Rattle.dispatch.specs.Spots.{Written}
 use Rattle.dispatch.specs.Tables.{task_nodes, task_arcs, ReadyIn, KeptIn}
 use Rattle.dispatch.proofs.Facts.{one_placing}
 use Rattle.dispatch.proofs.Lefts.{one_closing}
@@ -26,9 +25,9 @@ use Rattle.controller.specs.declared.refusal.Refusal.TheVariants.{Table, TooSoon
 use Rattle.controller.specs.declared.tables.Tables.{Tables}
 use Rattle.controller.specs.Calls.{Call, Add, Remove, Retime, Admit, Release, OpenTick, CloseTick, Share, Answer}
 use Rattle.controller.specs.Checks.{Check, slot_exists, no_tick_open, no_job_open, slot_free, table_lawful, slot_held, node_exists, time_in_range, room_for_bounds, room_for_cores, bounds_exist, admitted, period_over, earlier_ended, tick_open, outcome_for_each_core, outcomes_allowed, checks, Passes, Fails, AllPass, TurnedAway}
-use Rattle.controller.specs.Does.{Does, Refused}
-use Rattle.controller.specs.Effects.{one_more, Edited, Added, Removed, Retimed, SameTasks, Admitted, Released, TickOpened, TickClosed, Shared}
-use Rattle.controller.specs.State.{Meaning, cores, task_in, waited_in, period, GoesAhead}
+use Rattle.controller.specs.Does.{Does}
+use Rattle.controller.specs.Effects.{Edited, Added, Removed, Retimed, Admitted, Released, TickOpened, TickClosed, Shared}
+use Rattle.controller.specs.State.{Meaning, cores, period, GoesAhead}
 use Rattle.controller.proofs.Editing.{one_some, some_not_none}
 use Rattle.controller.proofs.Equal.{task_equal, demand_equal, plan_equal, tables_equal}
 

@@ -1,5 +1,5 @@
 -- An order that keeps its laws puts the open jobs in order.
-use Rattle.std.proofs.Common.{◌≡◌, ℕ, ◌<◌, true, ◌⊎◌, List, ℤ, pos, ◌+ℤ◌, ◌-ℤ◌, neg_ℤ, Some, Option, sym, refl, ap, ◌∙◌, subst, inl, inr, arith}
+use Rattle.std.proofs.Common.{◌≡◌, ℕ, ◌<◌, true, ◌⊎◌, List, ℤ, pos, ◌+ℤ◌, ◌-ℤ◌, neg_ℤ, Option, sym, subst, inl, inr, arith}
 use Rattle.std.proofs.lemmas.Int.{ints}
 use Rattle.std.proofs.lemmas.Bool.{cases_eq}
 use Rattle.order.specs.Laws.{Lawful}
@@ -7,7 +7,7 @@ use Rattle.task.specs.declared.held.Task.{Task}
 use Rattle.task.proofs.Recovered.{lawful_task}
 use Rattle.dispatch.specs.declared.job.Job.{Job}
 use Rattle.dispatch.specs.Placing.{HasReady, Orderly}
-use Rattle.dispatch.specs.Tables.{task_at, job_at, ReadyIn}
+use Rattle.dispatch.specs.Tables.{ReadyIn}
 use Rattle.controller.specs.State.{Meaning, party, GoesFirst, GoesAhead}
 use Rattle.controller.proofs.Editing.{one_some}
 use Rattle.controller.proofs.InTime.{LawfulOrder}

@@ -1,7 +1,6 @@
 -- Equal plans are admitted with equal answers.
-use Rattle.std.proofs.Common.{◌≡◌, ℕ, zero, suc, ◌<◌, ◌≤◌, Bool, ◌⊎◌, List, [], ◌∷◌, ◌++◌, length, drop, ℤ, Some, None, Ok, Err, Option, sym, refl, ap, ◌∙◌, subst, inl, inr, arith}
+use Rattle.std.proofs.Common.{◌≡◌, ℕ, suc, ◌<◌, ◌≤◌, ◌⊎◌, List, [], ◌∷◌, ◌++◌, length, drop, Some, None, Ok, Err, Option, sym, refl, ap, ◌∙◌, subst, inl, inr, arith}
 use mathlib.Core.Path.{fun_ext}
-use Rattle.order.specs.declared.Party.{Party}
 use Rattle.task.specs.declared.held.Task.{Task}
 use Rattle.bounds.specs.Equation.{Answers, Solves}
 use Rattle.admission.specs.Same.{SameSlot}
@@ -10,9 +9,9 @@ use Rattle.dispatch.specs.Tables.{task_at}
 use Rattle.controller.specs.declared.refusal.Refusal.{Refusal}
 use Rattle.controller.specs.declared.refusal.Refusal.TheVariants.{NoBounds, ShortList}
 use Rattle.controller.specs.declared.tables.Tables.{Tables}
-use Rattle.controller.specs.Calls.{Admit, Answer, Event}
+use Rattle.controller.specs.Calls.{Admit, Answer}
 use Rattle.controller.specs.Checks.{checks, TurnedAway}
-use Rattle.controller.specs.Does.{Does, History}
+use Rattle.controller.specs.Does.{Does}
 use Rattle.controller.specs.Promise.{Exact, SameMeaning, EqualPlans, EqualAnswers}
 use Rattle.controller.specs.State.{Meaning, table_of, table_in, held_in, NoneOpen}
 use Rattle.controller.proofs.Editing.{some_not_none, one_some}

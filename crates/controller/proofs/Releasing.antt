@@ -1,14 +1,14 @@
 -- Tasks are admitted, a job is released, a tick is opened: what holds between calls goes on to hold.
-use Rattle.std.proofs.Common.{◌≡◌, ℕ, ◌+◌, ◌<◌, ◌≤◌, Bool, true, false, cond, eqb, ◌≢◌, ◌⊎◌, List, [], ◌∷◌, length, get_or, set, Some, None, Ok, Option, sym, refl, ap, ◌∙◌, subst, inl, inr, arith}
+use Rattle.std.proofs.Common.{◌≡◌, ℕ, ◌+◌, ◌<◌, ◌≤◌, Bool, true, false, cond, eqb, ◌≢◌, List, [], ◌∷◌, set, Some, None, Ok, Option, sym, refl, ap, ◌∙◌, subst, inl, inr, arith}
 use Rattle.std.proofs.lemmas.Bool.{cases_eq}
 use Rattle.std.specs.List.{AllByRecursion as All}
 use Rattle.task.specs.declared.held.Task.{Task}
 use Rattle.bounds.specs.declared.plan.Demand.{Demand}
 use Rattle.bounds.specs.declared.plan.Plan.{Plan}
-use Rattle.bounds.specs.Equation.{bound, held, Least}
+use Rattle.bounds.specs.Equation.{bound, held}
 use Rattle.admission.specs.Demands.{Demands}
 use Rattle.admission.specs.Same.{SlotDemands}
-use Rattle.runs.specs.Run.{Done, Slot, idle, busy, State, start, Run, begun, released, Spaced, MayRelease, begin, release}
+use Rattle.runs.specs.Run.{Done, Slot, idle, busy, start, begun, released, Spaced, MayRelease, begin, release}
 use Rattle.runs.specs.System.{System}
 use Rattle.response.specs.Jobs.{JobState}
 use Rattle.response.specs.System.{number, there}
@@ -19,12 +19,11 @@ use Rattle.held_jobs.specs.Job.{released as untouched}
 use Rattle.controller.specs.declared.tables.Tables.{Tables}
 use Rattle.controller.specs.Book.{Entry, ToldTask, HoldsTold, Line, EndedInTime, entered, on_release}
 use Rattle.controller.specs.Calls.{Release}
-use Rattle.controller.specs.Checks.{Passes, period_over}
 use Rattle.controller.specs.Effects.{SameTasks, Admitted, Released, TickOpened}
 use Rattle.controller.specs.Promise.{Exact, AsTold}
 use Rattle.controller.specs.State.{Meaning, cores, table_of, table_in, task_in, job_in, waited_in, period, deadline, NoneOpen}
 use Rattle.controller.proofs.Editing.{one_some, some_not_none, here_not, here_same, no_entries, at_new, at_other}
-use Rattle.controller.proofs.Epoch.{system, Since, SameJob, SameSlot, Parts, parts, waited_at, Running, EpochBy, Epoch, PlacedBy, Sound}
+use Rattle.controller.proofs.Epoch.{system, Since, SameSlot, Parts, parts, waited_at, EpochBy, Epoch, PlacedBy, Sound}
 
 -- the tasks stay, so what they ask stays exact, and what they are due
 same_exact : (t u : Tables) → SameTasks t u → Exact t → Exact u

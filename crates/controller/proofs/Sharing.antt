@@ -1,6 +1,5 @@
 -- Two nodes of one job that have cores in one tick may share it.
-use Rattle.std.proofs.Common.{◌≡◌, ℕ, ◌<◌, Bool, true, false, ◌≢◌, List, Some, None, Ok, Err, Option, Result, sym, refl, ap, ◌∙◌, subst, arith}
-use Rattle.sets.specs.Tests.{Says}
+use Rattle.std.proofs.Common.{◌≡◌, ℕ, Bool, true, false, ◌≢◌, List, Some, None, Ok, Err, Option, Result, refl, ap, ◌∙◌, subst}
 use Rattle.task.specs.declared.held.Task.{Task}
 use Rattle.task.specs.Held.{nodes_of, arcs_of}
 use Rattle.task.proofs.Recovered.{lawful_task}
@@ -11,23 +10,22 @@ use Rattle.held_jobs.specs.declared.node_state.NodeState.{NodeState}
 use Rattle.held_jobs.specs.Job.{Ready, Reached}
 use Rattle.held_jobs.specs.Sharing.{MayShare}
 use Rattle.held_jobs.proofs.Share.{ready_may_share_holds_lem}
-use Rattle.runs.specs.Run.{Slot, idle, busy, State}
+use Rattle.runs.specs.Run.{busy}
 use Rattle.runs.proofs.Invariant.{SoundSlot, run_sound}
 use Rattle.response.specs.Jobs.{JobState, graph_jobs}
 use Rattle.response.proofs.InTime.{plan_bounded, jobs_sound}
 use Rattle.dispatch.specs.declared.job.Job.{Job}
-use Rattle.dispatch.specs.declared.spot.Spot.{Spot}
-use Rattle.dispatch.specs.Spots.{spot, HasCore}
-use Rattle.dispatch.specs.Tables.{task_at, job_at, task_nodes, task_arcs, ReadyIn, KeptIn}
+use Rattle.dispatch.specs.Spots.{spot}
+use Rattle.dispatch.specs.Tables.{task_nodes, task_arcs, ReadyIn, KeptIn}
 use Rattle.dispatch.proofs.Facts.{places_once}
 use Rattle.controller.specs.declared.refusal.Refusal.{Refusal}
 use Rattle.controller.specs.declared.tables.Tables.{Tables}
 use Rattle.controller.specs.Book.{Line, book}
-use Rattle.controller.specs.Does.{History, ShareDoes}
-use Rattle.controller.specs.Promise.{NeverTogether, ApartAfterNo}
-use Rattle.controller.specs.State.{Meaning, cores, task_in, job_in, waited_in, GoesAhead}
+use Rattle.controller.specs.Does.{ShareDoes}
+use Rattle.controller.specs.Promise.{ApartAfterNo}
+use Rattle.controller.specs.State.{Meaning, cores, job_in, waited_in, GoesAhead}
 use Rattle.controller.proofs.Editing.{one_some, some_not_none}
-use Rattle.controller.proofs.Epoch.{table_or, tables_of, system, SameSlot, SameJob, parts, Running, EpochBy, Sound}
+use Rattle.controller.proofs.Epoch.{table_or, tables_of, system, parts, Running, EpochBy, Sound}
 use Rattle.controller.proofs.Histories.{history_sound}
 use Rattle.controller.proofs.InTime.{LawfulOrder, planned, is_there}
 use Rattle.controller.proofs.Ticking.{with_job}

@@ -1,5 +1,5 @@
 -- A tick that is placed by the order, with outcomes that are right, is one that a run may have.
-use Rattle.std.proofs.Common.{◌≡◌, ℕ, zero, suc, ◌+◌, ◌<◌, ◌≤◌, Bool, true, false, cond, eqb, ◌≢◌, ◌⊎◌, List, [], ◌∷◌, length, ℤ, pos, ◌-ℤ◌, Some, None, Option, sym, refl, ap, ◌∙◌, subst, inl, inr, arith}
+use Rattle.std.proofs.Common.{◌≡◌, ℕ, zero, suc, ◌+◌, ◌<◌, Bool, true, false, cond, eqb, ◌≢◌, ◌⊎◌, List, [], ◌∷◌, length, ℤ, pos, ◌-ℤ◌, Some, Option, sym, refl, ap, ◌∙◌, subst, inl, inr, arith}
 use Rattle.std.proofs.lemmas.Int.{ints}
 use Rattle.std.proofs.lemmas.Bool.{eqb-true}
 use Rattle.std.specs.List.{AllByRecursion as All}
@@ -14,24 +14,24 @@ use Rattle.bounds.specs.declared.plan.Demand.{Demand}
 use Rattle.bounds.specs.Equation.{bound, held}
 use Rattle.held_jobs.specs.declared.node_state.NodeState.{NodeState}
 use Rattle.held_jobs.specs.Job.{state, ticks, Ready, Outcome, idle as not_run, goes_on, ends_with, Allowed}
-use Rattle.runs.specs.Jobs.{Turn, MayHave}
+use Rattle.runs.specs.Jobs.{MayHave}
 use Rattle.runs.specs.Run.{Slot, idle, busy, State, Place, places_of, ReadyAt, MayHaveAt, OpenAt, GoesAhead as RunAhead, MayTick}
-use Rattle.runs.specs.System.{System, Held}
+use Rattle.runs.specs.System.{System}
 use Rattle.response.specs.Jobs.{JobState, outcome_in, graph_jobs}
-use Rattle.response.specs.System.{number, party_at}
+use Rattle.response.specs.System.{party_at}
 use Rattle.dispatch.specs.declared.job.Job.{Job}
 use Rattle.dispatch.specs.declared.spot.Spot.{Spot}
 use Rattle.dispatch.specs.Closing.{meant, byte_at, Right, RightAt, RightFor, AllRight}
 use Rattle.dispatch.specs.Placing.{Waits, EachOnce, SparesNone}
-use Rattle.dispatch.specs.Spots.{spot, spot_at, HasCore}
-use Rattle.dispatch.specs.Tables.{task_at, job_at, task_nodes, task_arcs, ReadyIn, KeptIn}
+use Rattle.dispatch.specs.Spots.{spot, HasCore}
+use Rattle.dispatch.specs.Tables.{task_nodes, task_arcs, ReadyIn, KeptIn}
 use Rattle.dispatch.proofs.Facts.{places_once, conserving}
 use Rattle.controller.specs.declared.tables.Tables.{Tables}
 use Rattle.controller.specs.Book.{Entry, Line}
-use Rattle.controller.specs.State.{Meaning, cores, task_in, job_in, waited_in, party, period, deadline, GoesFirst, GoesAhead}
+use Rattle.controller.specs.State.{Meaning, cores, task_in, job_in, waited_in, party, deadline, GoesFirst, GoesAhead}
 use Rattle.controller.proofs.Cores.{place_of, places, each_place, few_places, all_places, no_place, one_place}
 use Rattle.controller.proofs.Editing.{one_some, some_not_none}
-use Rattle.controller.proofs.Epoch.{table_or, tables_of, system, SameJob, SameSlot, parts, Running, PlacedBy, Sound}
+use Rattle.controller.proofs.Epoch.{table_or, system, SameJob, SameSlot, parts, Running, PlacedBy, Sound}
 use Rattle.controller.proofs.InTime.{LawfulOrder, asking_at}
 use Rattle.controller.proofs.Ordered.{in_order}
 

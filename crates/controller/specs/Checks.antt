@@ -6,7 +6,6 @@ use Rattle.task.specs.declared.held.Refusal.{Refusal as TableRefusal}
 use Rattle.task.specs.declared.held.Task.{Task}
 use Rattle.task.specs.Described.{Told}
 use Rattle.bounds.specs.Equation.{Solves, Least}
-use Rattle.dispatch.specs.declared.job.Job.{Job}
 use Rattle.dispatch.specs.declared.spot.Spot.{Spot}
 use Rattle.dispatch.specs.Closing.{RightOn, AllRight}
 use Rattle.dispatch.specs.Tables.{task_nodes}

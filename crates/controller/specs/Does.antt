@@ -1,5 +1,5 @@
 -- What each call answers and does, and the histories of a controller. Assumes nothing.
-use Rattle.std.specs.Prelude.{◌≡◌, ℕ, ◌≤◌, Bool, List, [], ◌∷◌, replicate, Some, None, Ok, Err, Result}
+use Rattle.std.specs.Prelude.{◌≡◌, ℕ, ◌≤◌, Bool, List, [], ◌∷◌, replicate, None, Ok, Err, Result}
 use Rattle.controller.specs.declared.refusal.Refusal.{Refusal}
 use Rattle.controller.specs.declared.tables.Tables.{Tables}
 use Rattle.controller.specs.Calls.{Call, Add, Remove, Retime, Admit, Release, OpenTick, CloseTick, Share, Answer, Event}

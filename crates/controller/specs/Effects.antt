@@ -1,12 +1,11 @@
 -- What each call makes of the tables when all of its checks pass. Assumes nothing.
-use Rattle.std.specs.Prelude.{◌≡◌, ℕ, ◌+◌, ◌<◌, ◌≤◌, min, Bool, List, ◌++◌, map, length, drop, Some, None, Ok, Option, slice_set}
+use Rattle.std.specs.Prelude.{◌≡◌, ℕ, ◌+◌, min, Bool, List, ◌++◌, map, drop, Some, None, Ok, Option, slice_set}
 use Rattle.task.specs.declared.held.Task.{Task}
 use Rattle.task.specs.Described.{Told}
 use Rattle.task.specs.Retimed.{retimed}
 use Rattle.bounds.specs.declared.plan.Demand.{Demand}
 use Rattle.bounds.specs.Equation.{Least, bound}
 use Rattle.admission.specs.Demands.{Demands}
-use Rattle.dispatch.specs.declared.job.Job.{Job}
 use Rattle.dispatch.specs.declared.spot.Spot.{Spot}
 use Rattle.dispatch.specs.Placing.{Placed}
 use Rattle.dispatch.specs.Spots.{Written}

@@ -1,5 +1,5 @@
 -- How a draft grows by its statements.
-use Rattle.std.proofs.Common.{◌≡◌, ℕ, true, ◌⊎◌, List, [], ◌∷◌, ◌++◌, is_some, Some, None, Ok, Err, vec_items, Option, Result, Vec, sym, refl, ap, ◌∙◌, subst, inl, inr, arith, MatchResult}
+use Rattle.std.proofs.Common.{◌≡◌, ℕ, true, List, [], ◌∷◌, ◌++◌, is_some, Some, None, Ok, Err, vec_items, Option, Result, Vec, sym, refl, ap, ◌∙◌, subst, arith, MatchResult}
 use Rattle.std.specs.declared.alloc.Global.{Global}
 use Rattle.std.proofs.lemmas.List.{append-nil, map-append}
 use Rattle.table.specs.declared.records.Arc.{Arc}
@@ -14,7 +14,7 @@ use Rattle.plans.specs.declared.plan.Precedence.{Precedence}
 use Rattle.plans.specs.declared.plan.Flaw.{Flaw}
 use Rattle.plans.specs.declared.plan.Flaw.TheVariants.{Expected, SlotTaken, Missing, NoMemory}
 use Rattle.plans.specs.Drafts.{open_entry, KeptEntries, Drafted, Closed, OutOfMemory, Advances}
-use Rattle.plans.specs.Entries.{Placed, ToldEntry, written, file, told_entry, told_entries, cores_in, order_in, table_in, or_else, last_said, entries, HasSlot, OpenTask, Fits}
+use Rattle.plans.specs.Entries.{Placed, ToldEntry, file, told_entry, told_entries, cores_in, order_in, table_in, or_else, last_said, entries, HasSlot, OpenTask, Fits}
 use Rattle.plans.specs.declared.statement.Statement.{Statement}
 use Rattle.plans.specs.declared.statement.Statement.TheVariants.{Cores, Order}
 use Rattle.plans.specs.Statements.{Word, ToldTable, timed, filed, Said, cores, order, task, node, arc, meaning}

@@ -1,5 +1,5 @@
 -- The first words of statements tell them apart.
-use Rattle.std.proofs.Common.{◌≡◌, ℕ, List, [], ◌∷◌, codes, sym, refl, ap, ◌∙◌, subst, arith}
+use Rattle.std.proofs.Common.{◌≡◌, ℕ, List, ◌∷◌, codes, arith}
 use Rattle.plans.specs.Statements.{Word, Said, cores, order, task, node, arc, ToldTable, Goes_on, Makes}
 use Rattle.table.specs.declared.records.Arc.{Arc}
 use Rattle.table.specs.declared.records.Node.{Node}

@@ -1,14 +1,12 @@
 -- A text that says a plan is told no flaw.
-use Rattle.std.proofs.Common.{◌≡◌, ℕ, ◌+◌, ◌<◌, ◌⊎◌, List, [], ◌∷◌, ◌++◌, length, Some, None, Ok, Err, Option, sym, refl, ap, ◌∙◌, subst, inl, inr, arith}
+use Rattle.std.proofs.Common.{◌≡◌, ℕ, ◌+◌, ◌<◌, List, [], ◌∷◌, ◌++◌, length, Some, None, Option, sym, refl, ap, ◌∙◌, subst, inl, inr, arith}
 use Rattle.std.proofs.lemmas.List.{append-nil, append_assoc}
 use Rattle.std.specs.Str.Lines.{IsFirstLine}
-use Rattle.plans.specs.declared.plan.Flaw.{Flaw}
 use Rattle.plans.specs.declared.plan.Flaw.TheVariants.{Expected, SlotTaken, Missing, NoMemory}
-use Rattle.plans.specs.declared.plan.PlanText.{PlanText}
 use Rattle.plans.specs.declared.plan.Precedence.{Precedence}
 use Rattle.plans.specs.Entries.{Placed, cores_in, order_in, last_said, OpenTask, Fits, FitBehind, Fitting}
-use Rattle.plans.specs.Lines.{LinesTo, Stated, Worded}
-use Rattle.plans.specs.Parsed.{OfTable, Unexpected, TakesSlot, ReadTo, WrongAt, Says, LacksLine, Parsed, NoFlaw}
+use Rattle.plans.specs.Lines.{LinesTo, Stated}
+use Rattle.plans.specs.Parsed.{OfTable, Unexpected, TakesSlot, ReadTo, WrongAt, LacksLine, NoFlaw}
 use Rattle.plans.specs.Statements.{Word, Said, cores, order, task, node, arc, Makes}
 use Rattle.plans.proofs.OneText.{one_line, one_lines, one_worded, one_stated}
 use Rattle.plans.proofs.Unambiguous.{one_statement_lem}

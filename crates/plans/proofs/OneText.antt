@@ -1,15 +1,15 @@
 -- A text has one sequence of lines, and a line one sequence of words.
-use Rattle.std.proofs.Common.{◌≡◌, ℕ, suc, ◌+◌, ◌-◌, ◌<◌, ◌≤◌, Bool, true, false, not, ◌⊎◌, List, [], ◌∷◌, ◌++◌, length, get_or, take, drop, Some, None, Option, sym, refl, ap, ◌∙◌, subst, inl, inr, add-zero, arith}
+use Rattle.std.proofs.Common.{◌≡◌, ℕ, suc, ◌+◌, ◌-◌, ◌<◌, ◌≤◌, Bool, true, false, not, ◌⊎◌, List, [], ◌∷◌, ◌++◌, length, get_or, take, drop, Some, sym, refl, ap, ◌∙◌, subst, inl, inr, add-zero, arith}
 use lib.Utf8.{encode, encodes}
-use Rattle.std.proofs.lemmas.List.{append-nil, append_assoc, append_cancel_left, length-append, length-take, length-drop, get_or-take, get_or-drop, get_or_at, nil_from_length, same_from_push}
-use Rattle.std.proofs.lemmas.Bool.{cases_lt, cases_eq, eqb-true, eqb-false}
+use Rattle.std.proofs.lemmas.List.{append_assoc, length-append, length-take, length-drop, get_or-take, get_or-drop, get_or_at, nil_from_length, same_from_push}
+use Rattle.std.proofs.lemmas.Bool.{cases_lt, eqb-true, eqb-false}
 use Rattle.std.proofs.lemmas.Str.{NoCharPasses-byte, encode_ascii, encode_same, length-encode, len_utf8_bounds}
 use Rattle.std.specs.Str.Lines.{IsFirstLine, StripsCarriageReturn}
 use Rattle.std.specs.Char.{is_whitespace, is_not_whitespace, is_newline}
 use Rattle.std.specs.Str.{NonePass, NoCharPasses, EmptyOrStartsWithPassing}
 use Rattle.plans.specs.Lines.{hash, Uncommented, WordsOf, Worded, LinesTo, Stated}
 use Rattle.plans.specs.Entries.{Placed, cores_in, order_in, last_said, entries}
-use Rattle.plans.specs.Parsed.{Says, OnePlan}
+use Rattle.plans.specs.Parsed.{OnePlan}
 use Rattle.plans.specs.Statements.{Word, Said, Makes}
 use Rattle.plans.proofs.Unambiguous.{one_statement_lem}
 

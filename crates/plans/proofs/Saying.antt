@@ -12,9 +12,9 @@ use Rattle.plans.specs.declared.plan.Precedence.TheVariants.{Fixed, Open}
 use Rattle.plans.specs.declared.statement.Statement.{Statement}
 use Rattle.std.specs.Str.Parse.{without_leading_plus, digits_value as value_of_lem}
 use Rattle.plans.specs.Numerals.{Counts}
-use Rattle.plans.specs.Statements.{Word, ToldTable, timed, filed, Said, cores, order, task, node, arc, greatest_time, role_word, order_word, texts}
-use Rattle.plans.specs.Statements.{BranchSaid, RegionSaid, PlaceSaid, Sits, Closes, NodeSaid, TimesSaid, FileSaid, TableSaid, TaskSaid, Goes_on, Makes, Heard, Found, ReadAs}
-use Rattle.plans.proofs.Keywords.{only_cores, only_order, only_task, only_node, only_arc, no_keyword}
+use Rattle.plans.specs.Statements.{Word, ToldTable, timed, filed, Said, cores, order, task, arc, greatest_time, role_word, order_word, texts}
+use Rattle.plans.specs.Statements.{BranchSaid, RegionSaid, PlaceSaid, Sits, Closes, NodeSaid, TimesSaid, FileSaid, TableSaid, Goes_on, Makes, Heard, Found, ReadAs}
+use Rattle.plans.proofs.Keywords.{only_cores, only_order, only_task, only_arc, no_keyword}
 use Rattle.plans.proofs.Spelled.{Slice, nth, behind, length_texts, spelled_0, spelled_1, spelled_2, spelled_4, opened_1, opened_2, opened_3}
 
 -- a list of words is as long as the slice that has them

@@ -1,7 +1,7 @@
 -- The lines of a text, as they are read.
-use Rattle.std.proofs.Common.{◌≡◌, ℕ, ◌+◌, ◌<◌, ◌≤◌, true, false, eqb, ◌⊎◌, List, [], ◌∷◌, ◌++◌, length, take, drop, Ok, Err, Result, sym, refl, ap, ◌∙◌, subst, inl, inr, arith}
+use Rattle.std.proofs.Common.{◌≡◌, ℕ, ◌+◌, ◌<◌, ◌≤◌, true, false, eqb, ◌⊎◌, List, [], ◌∷◌, ◌++◌, length, drop, Ok, Err, Result, sym, refl, ap, ◌∙◌, subst, inl, inr, arith}
 use lib.Utf8.{encode}
-use Rattle.std.proofs.lemmas.List.{append-nil, length-append, nil_from_length}
+use Rattle.std.proofs.lemmas.List.{length-append, nil_from_length}
 use Rattle.std.proofs.lemmas.Bool.{cases_eq, eqb-true, eqb-false}
 use Rattle.std.proofs.lemmas.Str.{length-encode, len_utf8_bounds}
 use Rattle.std.specs.Str.Lines.{IsFirstLine}
@@ -10,10 +10,10 @@ use Rattle.plans.specs.declared.plan.Flaw.{Flaw}
 use Rattle.plans.specs.declared.plan.Flaw.TheVariants.{Expected, SlotTaken, Missing, NoMemory}
 use Rattle.plans.specs.declared.plan.PlanText.{PlanText}
 use Rattle.plans.specs.Drafts.{Drafted, Advances, ReadsLine, Finishes}
-use Rattle.plans.specs.Entries.{Placed, Fits, Fitting}
+use Rattle.plans.specs.Entries.{Placed}
 use Rattle.plans.specs.Lines.{LinesTo, Worded, Stated}
-use Rattle.plans.specs.Parsed.{ReadTo, WrongAt, Parsed}
-use Rattle.plans.specs.Statements.{Word, texts, Said, task, Makes}
+use Rattle.plans.specs.Parsed.{ReadTo, Parsed}
+use Rattle.plans.specs.Statements.{Word, texts, Said, Makes}
 use Rattle.plans.proofs.Gathering.{fitting_more}
 use Rattle.plans.proofs.Spelled.{Slice, spelled_0}
 

@@ -6,13 +6,12 @@ use Rattle.table.specs.declared.records.Region.{Region}
 use Rattle.table.specs.declared.records.Region.TheVariants.{Top, Branch}
 use Rattle.table.specs.declared.records.Role.{Role}
 use Rattle.table.specs.declared.records.Role.TheVariants.{Plain, Opening, Closing}
-use Rattle.table.specs.declared.records.Timing.{Timing}
 use Rattle.plans.specs.declared.plan.Precedence.{Precedence}
 use Rattle.plans.specs.declared.plan.Precedence.TheVariants.{Fixed, Open}
 use Rattle.std.specs.Str.Parse.{without_leading_plus, digits_value as value_of_lem}
 use Rattle.plans.specs.Numerals.{Counts}
 use Rattle.plans.specs.Statements.{Word, ToldTable, timed, filed, Said, cores, order, task, node, arc, order_word, role_word, keyword}
-use Rattle.plans.specs.Statements.{RegionSaid, PlaceSaid, NodeSaid, TableSaid, TaskSaid, Goes_on, Makes, OneStatement}
+use Rattle.plans.specs.Statements.{RegionSaid, PlaceSaid, NodeSaid, TableSaid, TaskSaid, Goes_on, OneStatement}
 
 -- a word is one number at most
 one_number : (a b : ℕ) (v w : Word) (m n : ℕ) → v ≡ w → Counts a v m → Counts b w n → m ≡ n

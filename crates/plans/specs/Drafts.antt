@@ -2,7 +2,6 @@
 use Rattle.std.specs.Prelude.{◌≡◌, ℕ, ◌⊎◌, List, [], ◌∷◌, ◌++◌, Some, None, Ok, Err, vec_items, Option, Result}
 use Rattle.plans.specs.declared.draft.Draft.{Draft}
 use Rattle.plans.specs.declared.draft.Head.{Head}
-use Rattle.plans.specs.declared.plan.Entry.{Entry}
 use Rattle.plans.specs.declared.plan.Flaw.{Flaw}
 use Rattle.plans.specs.declared.plan.Flaw.TheVariants.{Expected, SlotTaken, Missing, NoMemory}
 use Rattle.plans.specs.Entries.{Placed, ToldEntry, written, cores_in, order_in, last_said, entries, told_entries, HasSlot, OpenTask, Fits}

@@ -4,7 +4,6 @@ use Rattle.std.specs.Str.Lines.{IsFirstLine}
 use Rattle.plans.specs.declared.plan.Flaw.{Flaw}
 use Rattle.plans.specs.declared.plan.Flaw.TheVariants.{Expected, SlotTaken, Missing, NoMemory}
 use Rattle.plans.specs.declared.plan.PlanText.{PlanText}
-use Rattle.plans.specs.declared.plan.Precedence.{Precedence}
 use Rattle.plans.specs.Entries.{Placed, cores_in, order_in, last_said, entries, told_entries, HasSlot, OpenTask, Fitting}
 use Rattle.plans.specs.Lines.{LinesTo, Stated, Worded}
 use Rattle.plans.specs.Statements.{Word, ToldTable, Said, cores, order, task, node, arc, Makes}

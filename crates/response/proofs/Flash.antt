@@ -4,7 +4,6 @@ use Rattle.std.proofs.lemmas.Bool.{eqb-true}
 use Rattle.table.specs.Cases.{lamp_nodes}
 use Rattle.table.specs.Range.{NodeInRange}
 use Rattle.table.specs.Whole.{no_node}
-use Rattle.task.specs.Graph.{role}
 use Rattle.task.specs.Held.{LawfulTask}
 use Rattle.workload.specs.Measures.{IsGreatestLength, IsGreatestTotal}
 use Rattle.workload.proofs.Single.{single_plain, single_shaped, single_length, single_total}

@@ -5,7 +5,7 @@ use Rattle.std.proofs.lemmas.Bool.{cases_lt, ltb-false}
 use Rattle.std.specs.List.{AllByRecursion as All}
 use Rattle.bounds.specs.Equation.{jobs_in}
 use Rattle.bounds.proofs.Rounding.{up_enough}
-use Rattle.runs.specs.Counts.{bit, count_if, times, sum_of}
+use Rattle.runs.specs.Counts.{bit, count_if, sum_of}
 use Rattle.runs.specs.Window.{Job, Fits, ApartBefore, Apart, in_window, used, WindowBounded, used_ahead, reaches, AheadBounded}
 use Rattle.runs.proofs.Counting.{count_if_mono, count_if_length, count_narrow, sum_of_mono}
 

@@ -1,14 +1,14 @@
-use Rattle.std.proofs.Common.{◌≡◌, ℕ, zero, suc, ◌+◌, ◌<◌, ◌≤◌, ◌⊎◌, List, [], ◌∷◌, ◌++◌, length, get_or, Ok, Err, sym, refl, ap, ◌∙◌, subst, inl, inr, arith}
-use Rattle.table.specs.declared.fault.Fault.TheVariants.{Layout, Range}
-use Rattle.table.specs.declared.records.Kind.TheVariants.{OfTask, OfNode, OfArc}
+use Rattle.std.proofs.Common.{ℕ, zero, suc, ◌<◌, ◌≤◌, List, [], ◌++◌, length, get_or, Err, sym, refl, subst, inl, inr, arith}
+use Rattle.table.specs.declared.fault.Fault.TheVariants.{Range}
+use Rattle.table.specs.declared.records.Kind.TheVariants.{OfNode}
 use Rattle.table.specs.declared.records.Role.TheVariants.{Plain}
 use Rattle.table.specs.declared.records.Region.TheVariants.{Top}
-use Rattle.table.specs.Format.{Record, task, node, arc, encode}
+use Rattle.table.specs.Format.{Record, task, node, encode}
 use Rattle.table.specs.Range.{InRange, TaskInRange, NodeInRange}
-use Rattle.table.specs.Run.{Run, begin, ◌then◌, Sound}
-use Rattle.table.specs.Whole.{Lawful, Encodes, held, no_node}
+use Rattle.table.specs.Run.{begin, ◌then◌}
+use Rattle.table.specs.Whole.{no_node}
 use Rattle.table.specs.declared.fault.Field.TheVariants.{Time}
-use Rattle.table.specs.Reading.{Reads, OutOfRange, LayoutAt, RangeAt}
+use Rattle.table.specs.Reading.{Reads, OutOfRange}
 use Rattle.table.specs.Cases.{lamp, lamp_timing, lamp_nodes, CasesStand}
 use Rattle.table.proofs.Bytes.{number_back}
 use Rattle.table.proofs.Apart.{Written, range_written, encodes_one}

@@ -1,13 +1,13 @@
 -- No two faults of layout hold at once, and none holds where a record is well laid out. Each fault has a stage, in the sequence in which
 -- they are tried, and what was tried before is past.
-use Rattle.std.proofs.Common.{◌≡◌, ℕ, zero, suc, ◌+◌, ◌-◌, ◌<◌, ◌≤◌, cond, eqb, ◌⊎◌, List, [], length, sym, refl, ap, ◌∙◌, subst, inl, inr, arith}
-use Rattle.std.proofs.lemmas.Bool.{cases_lt, eq-eqb}
+use Rattle.std.proofs.Common.{◌≡◌, ℕ, zero, suc, ◌+◌, ◌-◌, ◌<◌, ◌≤◌, ◌⊎◌, List, [], length, sym, refl, ap, ◌∙◌, subst, inl, inr, arith}
+use Rattle.std.proofs.lemmas.Bool.{cases_lt}
 use Rattle.table.specs.declared.records.Kind.{Kind}
 use Rattle.table.specs.declared.records.Kind.TheVariants.{OfTask, OfNode, OfArc}
 use Rattle.table.specs.declared.reader.Seen.{Seen}
 use Rattle.table.specs.declared.fault.LayoutFault.{LayoutFault}
 use Rattle.table.specs.declared.fault.LayoutFault.TheVariants.{Missing, HeaderCutOff, UnknownKind, WrongLength, OutOfTurn, TooMany, RecordCutOff}
-use Rattle.table.specs.Format.{number, size}
+use Rattle.table.specs.Format.{size}
 use Rattle.table.specs.Run.{InTurn, Room}
 use Rattle.table.specs.Layout.{told, Named, Measured, Allowed, Roomy, Laid, Owed, Faulty}
 use Rattle.table.proofs.Named.{one_kind, kind_numbered, numbered_back}

@@ -1,5 +1,5 @@
 -- What holds between two records, and how a record is found to stand in the bytes.
-use Rattle.std.proofs.Common.{◌≡◌, ℕ, suc, ◌+◌, ◌-◌, ◌*◌, ◌<◌, ◌≤◌, ◌⊎◌, List, [], ◌∷◌, ◌++◌, length, get_or, take, drop, sym, refl, ap, ◌∙◌, subst, inl, inr, arith, length-append, length-drop, take-append-drop}
+use Rattle.std.proofs.Common.{◌≡◌, ℕ, ◌+◌, ◌-◌, ◌*◌, ◌<◌, ◌≤◌, ◌⊎◌, List, [], ◌∷◌, ◌++◌, length, get_or, take, drop, sym, refl, ap, ◌∙◌, subst, inl, inr, arith, length-append, length-drop, take-append-drop}
 use Rattle.std.proofs.lemmas.List.{append-nil, append_assoc, drop-drop, drop_all, get_or-drop, length-take-le}
 use Rattle.table.specs.declared.records.Kind.TheVariants.{OfTask, OfNode, OfArc}
 use Rattle.table.specs.declared.records.Kind.{Kind}
@@ -11,7 +11,7 @@ use Rattle.table.specs.Run.{Run, begin, ◌then◌, encoding, counted, seen, Nex
 use Rattle.table.specs.Whole.{Encodes}
 use Rattle.table.proofs.Runs.{nodes, arcs, timing, records}
 use Rattle.table.proofs.Tables.{Whole, whole_run, lawful_whole}
-use Rattle.table.specs.Layout.{told, Named, Laid, Faulty}
+use Rattle.table.specs.Layout.{told, Laid, Faulty}
 use Rattle.table.specs.declared.fault.LayoutFault.{LayoutFault}
 use Rattle.table.specs.declared.fault.Misfit.{Misfit}
 use Rattle.table.specs.Fields.{Misfits, FirstOut, fields_of}

@@ -1,5 +1,5 @@
 -- Only one answer is right for a table: two sound runs that it begins with agree as far as both go, and where one stops no record goes on.
-use Rattle.std.proofs.Common.{◌≡◌, ℕ, suc, ◌+◌, ◌-◌, ◌*◌, ◌<◌, ◌≤◌, ◌⊎◌, List, [], ◌∷◌, ◌++◌, length, get_or, take, drop, Ok, Err, Result, sym, refl, ap, ◌∙◌, subst, inl, inr, arith, length-append}
+use Rattle.std.proofs.Common.{◌≡◌, ℕ, ◌≤◌, ◌⊎◌, List, [], ◌∷◌, ◌++◌, length, Ok, Err, Result, sym, refl, ap, ◌∙◌, subst, inl, inr, arith, length-append}
 use Rattle.std.proofs.lemmas.List.{append-nil, append_assoc, append_cancel_left}
 use Rattle.table.specs.declared.records.Kind.TheVariants.{OfTask, OfNode, OfArc}
 use Rattle.table.specs.declared.records.Kind.{Kind}
@@ -7,8 +7,8 @@ use Rattle.table.specs.declared.reader.Seen.{Seen}
 use Rattle.table.specs.declared.records.Table.{Table}
 use Rattle.table.specs.declared.fault.Fault.{Fault}
 use Rattle.table.specs.declared.fault.Fault.TheVariants.{Layout, Range}
-use Rattle.table.specs.Format.{Record, task, node, arc, kind, number, size, encode}
-use Rattle.table.specs.Run.{Run, begin, ◌then◌, encoding, seen, Next, InTurn, Room, Sound}
+use Rattle.table.specs.Format.{Record, kind, size, encode}
+use Rattle.table.specs.Run.{Run, begin, ◌then◌, encoding, seen, Next, Sound}
 use Rattle.table.proofs.Runs.{records}
 use Rattle.table.proofs.Tables.{made, whole_records, nodes_count, tasks_are}
 use Rattle.table.specs.declared.fault.LayoutFault.{LayoutFault}
@@ -16,12 +16,12 @@ use Rattle.table.specs.declared.fault.Misfit.{Misfit}
 use Rattle.table.specs.Layout.{told, Laid, Faulty}
 use Rattle.table.specs.declared.fault.Field.{Field}
 use Rattle.table.specs.Fields.{Misfits, fields_of, value}
-use Rattle.table.specs.Reading.{LayoutAt, RangeAt, OutOfRange, behind_header, Reads}
+use Rattle.table.specs.Reading.{OutOfRange, behind_header, Reads}
 use Rattle.table.proofs.Flaws.{one_fault, laid_faulty, end_faulty}
 use Rattle.table.proofs.Judged.{one_out}
 use Rattle.table.proofs.Named.{one_kind}
 use Rattle.table.proofs.Kept.{encoded_kind, encoded_length, length_encode}
-use Rattle.table.proofs.Apart.{Written, next_written, encodes_one}
+use Rattle.table.proofs.Apart.{next_written, encodes_one}
 
 -- a run and further records
 abbrev extend : Run → List Record → Run

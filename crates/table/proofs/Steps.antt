@@ -1,5 +1,5 @@
 -- What the reader gave, as the caller's bytes have it.
-use Rattle.std.proofs.Common.{◌≡◌, ℕ, List, drop, Some, None, Err, Option, Result, sym, refl, ap, ◌∙◌, subst}
+use Rattle.std.proofs.Common.{◌≡◌, ℕ, List, drop, Err, Option, Result, sym, subst}
 use Rattle.table.specs.declared.reader.Part.{Part}
 use Rattle.table.specs.declared.reader.Seen.{Seen}
 use Rattle.table.specs.declared.records.Table.{Table}

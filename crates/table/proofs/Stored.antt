@@ -1,12 +1,12 @@
 -- What a run holds, one record more.
-use Rattle.std.proofs.Common.{◌≡◌, ℕ, suc, ◌+◌, ◌-◌, ◌<◌, ◌≤◌, List, [], ◌∷◌, ◌++◌, length, set, replicate, sym, refl, ap, ◌∙◌, subst, arith, length-append}
-use Rattle.std.proofs.lemmas.List.{append-nil, append_assoc, set_at, length-replicate, length_push}
+use Rattle.std.proofs.Common.{◌≡◌, ℕ, suc, ◌+◌, ◌-◌, ◌<◌, List, [], ◌∷◌, ◌++◌, length, set, replicate, sym, refl, ap, ◌∙◌, arith}
+use Rattle.std.proofs.lemmas.List.{append-nil, append_assoc, set_at, length_push}
 use Rattle.table.specs.declared.records.Kind.TheVariants.{OfTask, OfNode, OfArc}
 use Rattle.table.specs.declared.records.Kind.{Kind}
 use Rattle.table.specs.Format.{Record, task, node, arc, kind}
-use Rattle.table.specs.Run.{Run, begin, ◌then◌, seen, Next, Room, Sound}
+use Rattle.table.specs.Run.{Run, begin, ◌then◌, seen, Room}
 use Rattle.table.specs.Whole.{padded, no_node, no_arc}
-use Rattle.table.proofs.Runs.{nodes, arcs, timing, records}
+use Rattle.table.proofs.Runs.{nodes, arcs, records}
 use Rattle.table.specs.Steps.{added, PlaceFor}
 
 pub counts_nodes : (run : Run) → (seen run).nodes ≡ length (nodes run)

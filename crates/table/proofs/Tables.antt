@@ -1,5 +1,5 @@
 -- Lawful tables and sound runs that begin with a task are the same.
-use Rattle.std.proofs.Common.{◌≡◌, ℕ, suc, ◌+◌, ◌-◌, ◌<◌, ◌≤◌, ◌⊎◌, List, [], ◌∷◌, ◌++◌, length, get_or, sym, refl, ap, ◌∙◌, subst, inl, inr, arith, length-append}
+use Rattle.std.proofs.Common.{◌≡◌, ℕ, suc, ◌+◌, ◌<◌, ◌≤◌, ◌⊎◌, List, [], ◌∷◌, ◌++◌, length, get_or, sym, refl, ap, ◌∙◌, subst, inl, inr, arith, length-append}
 use Rattle.std.specs.List.{flat_map}
 use Rattle.std.proofs.lemmas.Bool.{cases_lt}
 use Rattle.std.proofs.lemmas.List.{append-nil, append_assoc, length_push, get_or_push, get_or_append_left, get_or_at, flat_map_more}
@@ -7,12 +7,11 @@ use Rattle.table.specs.declared.records.Timing.{Timing}
 use Rattle.table.specs.declared.records.Node.{Node}
 use Rattle.table.specs.declared.records.Arc.{Arc}
 use Rattle.table.specs.declared.reader.Seen.{Seen}
-use Rattle.table.specs.declared.records.Table.{Table}
-use Rattle.table.specs.Format.{Record, task, node, arc, encode}
+use Rattle.table.specs.Format.{task, node, arc, encode}
 use Rattle.table.specs.Range.{TaskInRange, NodeInRange, ArcInRange}
-use Rattle.table.specs.declared.records.Kind.TheVariants.{OfTask, OfNode, OfArc}
-use Rattle.table.specs.Run.{Run, begin, ◌then◌, encoding, counted, seen, Sound, Next}
-use Rattle.table.specs.Whole.{Lawful, Encodes, table_bytes, held, no_node, no_arc}
+use Rattle.table.specs.declared.records.Kind.TheVariants.{OfNode, OfArc}
+use Rattle.table.specs.Run.{Run, begin, ◌then◌, encoding, counted, seen, Sound}
+use Rattle.table.specs.Whole.{Lawful, table_bytes, held, no_node, no_arc}
 use Rattle.table.proofs.Runs.{timing, nodes, arcs, records}
 
 -- few enough, and in range; there need be no node yet

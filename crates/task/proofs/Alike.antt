@@ -1,14 +1,13 @@
 -- The shape of a task does not depend on its times.
-use Rattle.std.proofs.Common.{◌≡◌, ℕ, suc, ◌⊎◌, List, length, sym, ◌∙◌, subst, inl, inr, arith}
+use Rattle.std.proofs.Common.{◌≡◌, ℕ, suc, List, length, sym, ◌∙◌, subst, inl, inr, arith}
 use Rattle.sets.specs.Sets.{JustOne}
 use Rattle.table.specs.declared.records.Arc.{Arc}
 use Rattle.table.specs.declared.records.Node.{Node}
 use Rattle.table.specs.declared.records.Region.{Region}
 use Rattle.table.specs.declared.records.Region.TheVariants.{Branch}
-use Rattle.table.specs.declared.records.Role.TheVariants.{Opening, Closing}
 use Rattle.task.specs.Graph.{role, region, IsNode, HomeOf, InRegion, HasBranch, ClosingOf, BeginsUnit, EndsUnit, Inner, Entry, Exit, OfAKind, First, Last}
 use Rattle.task.specs.Graph.{from, to}
-use Rattle.task.specs.Shape.{HomeOpens, ClosedOnce, Pairs_up, BranchesRun, CountsUp, LawfulArc, HasEnds, HasEndsAt, Wired, Shaped}
+use Rattle.task.specs.Shape.{HomeOpens, ClosedOnce, Pairs_up, CountsUp, LawfulArc, HasEnds, HasEndsAt, Wired, Shaped}
 
 -- as many nodes, of the same roles in the same regions
 pub record Alike (ns ms : List Node) : Type 0 where

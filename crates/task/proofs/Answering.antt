@@ -1,5 +1,5 @@
 -- What a table describes, from what reading it and trying the rules say.
-use Rattle.std.proofs.Common.{◌≡◌, ℕ, suc, ◌-◌, ◌<◌, ◌≤◌, ◌⊎◌, List, [], ◌++◌, length, get_or, take, replicate, Ok, Err, Result, sym, refl, ap, ◌∙◌, subst, inl, inr, arith}
+use Rattle.std.proofs.Common.{◌≡◌, ℕ, ◌-◌, ◌<◌, ◌≤◌, ◌⊎◌, List, ◌++◌, length, take, replicate, Ok, Err, Result, sym, ap, ◌∙◌, subst, inl, inr, arith}
 use lib.Seq.{take-append-le}
 use Rattle.std.proofs.lemmas.List.{take_all}
 use Rattle.std.proofs.lemmas.Bool.{cases_lt}
@@ -12,8 +12,8 @@ use Rattle.table.specs.declared.records.Role.{Role}
 use Rattle.table.specs.declared.records.Role.TheVariants.{Plain, Opening, Closing}
 use Rattle.table.specs.declared.records.Table.{Table}
 use Rattle.table.specs.declared.records.Timing.{Timing}
-use Rattle.table.specs.Range.{NodeInRange, ArcInRange, RoleInRange, RegionInRange}
-use Rattle.table.specs.Reading.{Reads, Answered}
+use Rattle.table.specs.Range.{RoleInRange, RegionInRange}
+use Rattle.table.specs.Reading.{Answered}
 use Rattle.table.specs.Whole.{Lawful, Encodes, held, no_node, no_arc}
 use Rattle.sets.specs.Tests.{FailsFirst}
 use Rattle.task.specs.declared.held.Refusal.{Refusal}
@@ -21,9 +21,9 @@ use Rattle.task.specs.declared.held.Refusal.TheVariants.{Unsound, Misshapen}
 use Rattle.task.specs.declared.rules.Broken.{Broken}
 use Rattle.task.specs.declared.rules.Rule.{Rule}
 use Rattle.task.specs.declared.rules.Rule.TheVariants.{HomesAreOpenings, MatesPairUp, BranchesCountUp, ArcsAreLawful, OneFirstOneLast, BlocksAreWired}
-use Rattle.task.specs.Described.{Describes, Told, Breaks, Taken}
-use Rattle.task.specs.Graph.{role, region, IsNode, HomeOf, Joined, Ranged}
-use Rattle.task.specs.Held.{nodes_of, arcs_of, LawfulTask}
+use Rattle.task.specs.Described.{Describes, Told}
+use Rattle.task.specs.Graph.{role, region, Ranged}
+use Rattle.task.specs.Held.{nodes_of, arcs_of}
 use Rattle.task.specs.Rules.{rule_number, BrokenAt, Holds, HoldsAt, places}
 use Rattle.task.specs.Shape.{Shaped}
 use Rattle.task.proofs.Sequence.{same_rule}

@@ -1,7 +1,7 @@
 -- A task's ranges and its shape can be tested, so that a lawful task is known as such once it is not denied.
 use mathlib.Core.HLevel.{⊥_prop}
 use mathlib.Core.Logic.{∥∥₁_elim}
-use Rattle.std.proofs.Common.{ℕ, suc, ◌≤◌, List, length, get_or}
+use Rattle.std.proofs.Common.{ℕ, suc, List, length, get_or}
 use Rattle.table.specs.declared.records.Arc.{Arc}
 use Rattle.table.specs.declared.records.Node.{Node}
 use Rattle.table.specs.declared.records.Region.{Region}

@@ -4,9 +4,9 @@ use Rattle.table.specs.Whole.{no_node, no_arc}
 use Rattle.table.specs.declared.records.Arc.{Arc}
 use Rattle.table.specs.declared.records.Node.{Node}
 use Rattle.table.specs.declared.records.Region.{Region}
-use Rattle.table.specs.declared.records.Region.TheVariants.{Top, Branch}
+use Rattle.table.specs.declared.records.Region.TheVariants.{Branch}
 use Rattle.table.specs.declared.records.Role.{Role}
-use Rattle.table.specs.declared.records.Role.TheVariants.{Plain, Opening, Closing}
+use Rattle.table.specs.declared.records.Role.TheVariants.{Opening, Closing}
 
 abbrev pub role : List Node → ℕ → Role
 role ns v = (slice_index_or ns v no_node).role

@@ -1,7 +1,6 @@
 -- A task with the time of one node set anew. Assumes nothing.
-use Rattle.std.specs.Prelude.{◌≡◌, ℕ, ◌≤◌, set, Some, None, Option, slice_index_or, slice_set}
+use Rattle.std.specs.Prelude.{◌≡◌, ℕ, ◌≤◌, Some, None, Option, slice_index_or, slice_set}
 use Rattle.table.specs.declared.records.Node.{Node}
-use Rattle.table.specs.declared.records.NodeList.{NodeList}
 use Rattle.table.specs.declared.records.Table.{Table}
 use Rattle.table.specs.Whole.{no_node}
 use Rattle.task.specs.declared.held.Task.{Task}

@@ -5,7 +5,7 @@ use Rattle.std.proofs.lemmas.Bool.Decides.{nat_tests}
 use Rattle.std.proofs.lemmas.Bool.{cases_eq}
 use Rattle.std.specs.List.{AllByRecursion as All}
 use Rattle.timing.specs.Counts.{bit, count_if, times}
-use Rattle.timing.specs.Window.{Job, Fits, ApartBefore, Apart, in_window, used, used_ahead}
+use Rattle.timing.specs.Window.{Job, Fits, ApartBefore, Apart, in_window, used_ahead}
 use Rattle.timing.specs.Run.{Done}
 
 -- the jobs that have ended, as jobs

@@ -3,7 +3,7 @@ use Rattle.std.proofs.Common.{◌≡◌, ℕ, zero, suc, ◌+◌, ◌-◌, ◌*�
 use Rattle.std.proofs.lemmas.Bool.Decides.{nat_tests}
 use Rattle.std.proofs.lemmas.Bool.{cases_lt, ltb-false}
 use Rattle.std.specs.List.{AllByRecursion as All}
-use Rattle.timing.specs.Counts.{bit, count_if, times, sum_of}
+use Rattle.timing.specs.Counts.{bit, count_if, sum_of}
 use Rattle.timing.specs.Window.{Job, Fits, ApartBefore, Apart, in_window, used, jobs_in, WindowBounded, used_ahead, reaches, AheadBounded}
 use Rattle.timing.proofs.Counting.{count_if_mono, count_if_length, count_narrow, div_up_enough, sum_of_mono}
 

@@ -1,5 +1,5 @@
 -- A walk in ticks, with every node a goal, gives the greatest lengths.
-use Rattle.std.proofs.Common.{◌≡◌, ℕ, ◌+◌, ◌/◌, ◌%◌, ◌^◌, ◌<◌, ◌≤◌, max, ◌⊎◌, List, length, get_or, replicate, sym, refl, ap, ◌∙◌, subst, inl, inr, arith}
+use Rattle.std.proofs.Common.{◌≡◌, ℕ, ◌/◌, ◌%◌, ◌^◌, ◌<◌, ◌≤◌, max, ◌⊎◌, List, length, get_or, replicate, sym, refl, ap, ◌∙◌, subst, inl, inr, arith}
 use lib.ListN.{length-replicate, get_or-replicate}
 use Rattle.std.proofs.lemmas.List.{get_or_past}
 use Rattle.std.proofs.lemmas.Bool.{cases_lt}
@@ -8,8 +8,8 @@ use Rattle.sets.specs.Sets.{Has, Marks}
 use Rattle.sets.proofs.Bits.{zero_or_one}
 use Rattle.table.specs.declared.records.Arc.{Arc}
 use Rattle.table.specs.declared.records.Node.{Node}
-use Rattle.task.specs.Graph.{time, IsNode, Joined, Ranged}
-use Rattle.paths.specs.Instances.{capped_sum, node_ticks, path_ticks, Greatest}
+use Rattle.task.specs.Graph.{IsNode, Joined, Ranged}
+use Rattle.paths.specs.Instances.{capped_sum, node_ticks, Greatest}
 use Rattle.paths.specs.Paths.{Path, end, step, first, last, Each, Chain, LeadsTo, path_value}
 use Rattle.paths.specs.Walks.{Walked}
 use Rattle.paths.proofs.Greatest.{greatest}

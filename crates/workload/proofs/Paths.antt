@@ -4,7 +4,7 @@ use Rattle.table.specs.declared.records.Arc.{Arc}
 use Rattle.table.specs.declared.records.Node.{Node}
 use Rattle.task.specs.Graph.{IsNode, Joined, OfAKind, ClosingOf, Ranged}
 use Rattle.task.specs.Shape.{Shaped}
-use Rattle.task.proofs.Follows.{arc_kind, branch_zero, closing_beside}
+use Rattle.task.proofs.Follows.{arc_kind, closing_beside}
 use Rattle.paths.specs.Paths.{Path, end, step, first, Each, Chain}
 use Rattle.workload.specs.Settling.{Settling, Takes}
 use Rattle.workload.specs.Statements.{PathsSettle, LongestPathIsLength, OneGreatest}

@@ -1,15 +1,10 @@
 -- What a lawful task gives the measures.
-use Rattle.std.proofs.Common.{◌≡◌, List, sym, subst}
-use Rattle.table.specs.declared.records.Arc.{Arc}
-use Rattle.table.specs.declared.records.Node.{Node}
 use Rattle.table.specs.declared.records.Table.{Table}
 use Rattle.task.specs.Graph.{Ranged}
 use Rattle.task.specs.Held.{nodes_of, arcs_of, LawfulTask}
 use Rattle.task.proofs.Answering.{ranged}
-use Rattle.workload.specs.Measures.{IsLongestPath, IsGreatestLength}
 use Rattle.workload.specs.Nested.{Nested}
 use Rattle.workload.proofs.Nesting.{tasks_nest_lem}
-use Rattle.workload.proofs.Paths.{longest_path_is_length_lem}
 
 pub task_ranged : (table : Table) → LawfulTask table → Ranged (nodes_of table) (arcs_of table)
 task_ranged table l = ranged table.timing (nodes_of table) (arcs_of table) l.in_range

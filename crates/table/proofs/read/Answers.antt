@@ -1,8 +1,8 @@
-use Rattle.std.proofs.Common.{◌≡◌, ℕ, ◌≤◌, List, length, Some, None, Ok, Err, sym, refl, ap, ◌∙◌, subst, arith}
+use Rattle.std.proofs.Common.{ℕ, ◌≤◌, List, length, Some, None, Ok, Err, sym, ◌∙◌, subst, arith}
 use Rattle.std.proofs.lemmas.Result.{err_from_is_err_and}
 use Rattle.table.specs.declared.fault.Fault.TheVariants.{Range}
 use Rattle.table.specs.Reading.{Answered}
-use Rattle.table.proofs.Kept.{Kept, kept_first, place_kept, kept_next, kept_ends, kept_out, fields_long}
+use Rattle.table.proofs.Kept.{kept_first, place_kept, kept_next, kept_ends, kept_out, fields_long}
 use Rattle.table.proofs.Steps.{stood, answered, faulted, moved}
 use Rattle.table.proofs.read.Goals as goal
 

@@ -1,4 +1,4 @@
-use Rattle.std.proofs.Common.{◌≡◌, [], ap, ◌∙◌}
+use Rattle.std.proofs.Common.{[], ap, ◌∙◌}
 use Rattle.controller.specs.Calls.{Add, Admit}
 use Rattle.controller.specs.State.{Meaning, meaning}
 use Rattle.usage.proofs.Onward.{onward}

@@ -1,4 +1,4 @@
-use Rattle.std.proofs.Common.{◌≡◌, refl, ap, ◌∙◌}
+use Rattle.std.proofs.Common.{refl, ap, ◌∙◌}
 use Rattle.controller.specs.Calls.{Release, OpenTick, CloseTick}
 use Rattle.controller.specs.State.{Meaning, meaning}
 use Rattle.usage.proofs.Onward.{onward}

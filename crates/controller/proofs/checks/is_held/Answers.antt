@@ -1,4 +1,4 @@
-use Rattle.std.proofs.Common.{Some, None, refl, ◌∙◌, arith}
+use Rattle.std.proofs.Common.{Some, None, refl, arith}
 use Rattle.controller.proofs.Editing.{read_at, some_not_none}
 use Rattle.controller.proofs.checks.is_held.Goals as goal
 

@@ -1,5 +1,4 @@
-use Rattle.std.proofs.Common.{ℕ, ◌<◌, sym, ◌∙◌, subst, arith, length-set, get_or-set_other, get_or-set_same, below_more}
-use Rattle.sets.specs.declared.bit_set.BitSet.{BitSet}
+use Rattle.std.proofs.Common.{◌<◌, sym, ◌∙◌, subst, arith, length-set, get_or-set_other, get_or-set_same, below_more}
 use Rattle.sets.specs.Sets.{Marks}
 use Rattle.dispatch.specs.Tables.{row, no_number}
 use Rattle.controller.specs.Ahead.{AheadAmong}

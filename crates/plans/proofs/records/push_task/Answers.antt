@@ -1,4 +1,3 @@
-use Rattle.std.proofs.Common.{rules}
 use Rattle.plans.proofs.Written.{extended}
 use Rattle.plans.proofs.records.push_task.Goals as goal
 

@@ -1,4 +1,3 @@
-use Rattle.std.proofs.Common.{rules}
 use Rattle.plans.proofs.Saying.{home_unsaid, branch_unsaid}
 use Rattle.plans.proofs.statement.branch_in.Goals as goal
 

@@ -1,4 +1,3 @@
-use Rattle.std.proofs.Common.{rules}
 use Rattle.plans.proofs.Keywords.{only_node}
 use Rattle.plans.proofs.statement.node_statement.Goals as goal
 

@@ -1,4 +1,3 @@
-use Rattle.std.proofs.Common.{rules}
 use Rattle.plans.proofs.statement.timing_in.Goals as goal
 
 pub returns-in_default : goal.returns-in_default

@@ -1,4 +1,4 @@
-use Rattle.std.proofs.Common.{◌≡◌, refl, inl, inr, arith, rules}
+use Rattle.std.proofs.Common.{refl, inl, inr, arith}
 use Rattle.table.proofs.Bytes.{eight}
 use Rattle.table.proofs.fields.node_in.Goals as goal
 

@@ -1,4 +1,4 @@
-use Rattle.std.proofs.Common.{◌≡◌, rules}
+use Rattle.std.proofs.Common.{rules}
 use Rattle.table.proofs.Bytes.{eight}
 use Rattle.table.proofs.fields.timing_in.Goals as goal
 

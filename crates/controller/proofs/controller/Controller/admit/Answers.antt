@@ -1,9 +1,8 @@
-use Rattle.std.proofs.Common.{ℕ, List, Ok, Err, refl, inl, inr}
+use Rattle.std.proofs.Common.{Ok, Err, refl, inl, inr}
 use Rattle.controller.specs.declared.refusal.Refusal.TheVariants.{NoBounds}
-use Rattle.controller.specs.declared.tables.Tables.{Tables}
-use Rattle.controller.specs.Calls.{Admit, Answer}
+use Rattle.controller.specs.Calls.{Admit}
 use Rattle.controller.specs.Does.{Does}
-use Rattle.controller.specs.State.{Meaning, meaning}
+use Rattle.controller.specs.State.{meaning}
 use Rattle.controller.proofs.Histories.{kept}
 use Rattle.controller.proofs.Plans.{equal_answers}
 use Rattle.controller.proofs.controller.Controller.admit.Goals as goal

@@ -1,10 +1,7 @@
-use Rattle.std.proofs.Common.{◌≡◌, ℕ, [], ◌∷◌, set, Some, None, sym, refl, ap, ◌∙◌, subst, inl, inr}
+use Rattle.std.proofs.Common.{◌≡◌, ℕ, [], ◌∷◌, set, None, refl, ap, ◌∙◌, subst, inl, inr}
 use Rattle.std.proofs.lemmas.Result.{err_from_is_err_and}
-use Rattle.task.specs.declared.held.Task.{Task}
 use Rattle.dispatch.specs.Tables.{task_at}
-use Rattle.controller.specs.declared.tables.Tables.{Tables}
 use Rattle.controller.specs.Checks.{slot_free, table_lawful}
-use Rattle.controller.specs.Effects.{Put}
 use Rattle.controller.specs.State.{HoldsTask}
 use Rattle.controller.proofs.Editing.{none_there, put_elsewhere}
 use Rattle.controller.proofs.tables.Tables.add.Goals as goal

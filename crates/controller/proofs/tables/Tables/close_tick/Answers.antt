@@ -1,4 +1,4 @@
-use Rattle.std.proofs.Common.{◌≡◌, length, sym, refl, ap, ◌∙◌, subst, inl, inr, arith}
+use Rattle.std.proofs.Common.{length, refl, ap, ◌∙◌, inl, inr, arith}
 use Rattle.controller.proofs.Equal.{tables_equal}
 use Rattle.controller.proofs.Waiting.{as_many_wait}
 use Rattle.controller.proofs.tables.Tables.close_tick.Goals as goal

@@ -1,5 +1,4 @@
-use Rattle.std.proofs.Common.{◌≡◌, ℕ, List, set, Some, None, Option, sym, refl, ap, ◌∙◌, inl, inr, arith}
-use Rattle.task.specs.declared.held.Task.{Task}
+use Rattle.std.proofs.Common.{set, Some, sym, refl, ap, inl, inr, arith}
 use Rattle.dispatch.specs.declared.job.Job.{Job}
 use Rattle.dispatch.specs.Tables.{task_at, job_at}
 use Rattle.controller.specs.State.{period}

@@ -1,4 +1,4 @@
-use Rattle.std.proofs.Common.{List, vec_items, vec_len, sym, refl, ap, subst, inl}
+use Rattle.std.proofs.Common.{List, vec_items, vec_len, sym, refl, subst, inl}
 use Rattle.plans.specs.Lines.{Worded}
 use Rattle.plans.specs.Statements.{Word, texts, meaning, Makes}
 use Rattle.plans.proofs.Spelled.{Slice}

@@ -1,4 +1,4 @@
-use Rattle.std.proofs.Common.{◌<◌, ◌≤◌}
+use Rattle.std.proofs.Common.{◌<◌}
 use Rattle.sets.specs.Sets.{Marks}
 use Rattle.sets.proofs.bit_set.BitSet.below.Given as goal
 

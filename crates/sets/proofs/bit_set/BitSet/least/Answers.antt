@@ -1,5 +1,4 @@
 use Rattle.std.proofs.Common.{arith}
-use lib.Count.{count_trailing_zeros}
 use Rattle.sets.proofs.Bits.{set_at_zeros, clear_below_zeros}
 use Rattle.sets.proofs.Marked.{none_in_zero}
 use Rattle.sets.proofs.bit_set.BitSet.least.Goals as goal

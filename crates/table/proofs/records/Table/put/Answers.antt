@@ -1,4 +1,4 @@
-use Rattle.std.proofs.Common.{◌≡◌, sym, refl, ap}
+use Rattle.std.proofs.Common.{sym, refl, ap}
 use Rattle.table.specs.declared.records.ArcList.{ArcList}
 use Rattle.table.specs.declared.records.NodeList.{NodeList}
 use Rattle.table.specs.declared.records.Table.{Table}
