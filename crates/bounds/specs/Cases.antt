@@ -48,8 +48,8 @@ case most cores lo hi first second answer =
       answer = answer;
     }
 
-abbrev pub on_two_lem : Caps → Option Demand → Option Demand → Result (List ℕ) Passed → Case
-on_two_lem most = case most 2 (lit≤ tt) (lit≤ tt)
+abbrev pub on_two : Caps → Option Demand → Option Demand → Result (List ℕ) Passed → Case
+on_two most = case most 2 (lit≤ tt) (lit≤ tt)
 
 abbrev pub bounds : ℕ → ℕ → Result (List ℕ) Passed
 bounds first second = Ok (first ∷ second ∷ replicate 14 0)
@@ -63,14 +63,14 @@ cases =
     ∷ case slot_cap 2 (lit≤ tt) (lit≤ tt) splice_40 None (bounds 17 0)
     ∷ case slot_cap 3 (lit≤ tt) (lit≤ tt) splice_40 None (bounds 16 0)
     ∷ case slot_cap 16 (lit≤ tt) (lit≤ tt) splice_40 None (bounds 13 0)
-    ∷ on_two_lem slot_cap lamp_10 splice_40 (bounds 6 23)
-    ∷ on_two_lem slot_cap lamp_10 splice_23 (bounds 6 23)
-    ∷ on_two_lem slot_cap lamp_10 splice_22 (passed 1)
-    ∷ on_two_lem no_cap lamp_10 splice_40 (passed 0)
-    ∷ on_two_lem no_cap lamp_17 splice_40 (bounds 17 23)
-    ∷ on_two_lem no_cap lamp_16 splice_40 (passed 0)
-    ∷ on_two_lem slot_cap splice_40 lamp_17 (bounds 17 17)
-    ∷ on_two_lem slot_cap splice_40 lamp_16 (passed 1)
+    ∷ on_two slot_cap lamp_10 splice_40 (bounds 6 23)
+    ∷ on_two slot_cap lamp_10 splice_23 (bounds 6 23)
+    ∷ on_two slot_cap lamp_10 splice_22 (passed 1)
+    ∷ on_two no_cap lamp_10 splice_40 (passed 0)
+    ∷ on_two no_cap lamp_17 splice_40 (bounds 17 23)
+    ∷ on_two no_cap lamp_16 splice_40 (passed 0)
+    ∷ on_two slot_cap splice_40 lamp_17 (bounds 17 17)
+    ∷ on_two slot_cap splice_40 lamp_16 (passed 1)
     ∷ []
 
 abbrev pub AllRight : List Case → Type 0

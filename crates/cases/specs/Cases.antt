@@ -18,7 +18,7 @@ use Rattle.order.specs.Orders.{slot_cap, no_cap}
 use Rattle.bounds.specs.declared.plan.Demand.{Demand}
 use Rattle.bounds.specs.declared.plan.Plan.{Plan}
 use Rattle.bounds.specs.declared.rise.Passed.{Passed}
-use Rattle.bounds.specs.Cases.{Case as PlanCase, case, on_two_lem, bounds, passed, lamp_10, lamp_16, lamp_17, splice_22, splice_23, splice_40}
+use Rattle.bounds.specs.Cases.{Case as PlanCase, case, on_two, bounds, passed, lamp_10, lamp_16, lamp_17, splice_22, splice_23, splice_40}
 use Rattle.bounds.specs.Equation.{Caps, Told, work_ahead_of}
 
 pub data Case : Type 0 where
@@ -64,10 +64,10 @@ alone cores lo hi task bound = of_plan (case slot_cap cores lo hi task None (bou
 
 -- tasks in the first two slots on two cores, in the fixed order and in the open one
 abbrev pub fixed : Option Demand → Option Demand → Result (List ℕ) Passed → Case
-fixed first second answer = of_plan (on_two_lem slot_cap first second answer)
+fixed first second answer = of_plan (on_two slot_cap first second answer)
 
 abbrev pub free : Option Demand → Option Demand → Result (List ℕ) Passed → Case
-free first second answer = of_plan (on_two_lem no_cap first second answer)
+free first second answer = of_plan (on_two no_cap first second answer)
 
 -- the lamp's time out of range; its record stands at offset 12
 abbrev pub time_fault : ℕ → Fault

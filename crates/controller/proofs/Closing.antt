@@ -21,7 +21,7 @@ use Rattle.dispatch.specs.declared.spot.Spot.{Spot}
 use Rattle.dispatch.specs.Closing.{outcome_of, states_after, Bit, AllRight, ClosedSlot, Ends, Stays, Unmoved}
 use Rattle.dispatch.specs.Tables.{task_nodes, task_arcs}
 use Rattle.controller.specs.declared.tables.Tables.{Tables}
-use Rattle.controller.specs.Book.{Entry, ToldTask, HoldsTold, Line, EndedInTime, one_seen, bit_set_lem, entered}
+use Rattle.controller.specs.Book.{Entry, ToldTask, HoldsTold, Line, EndedInTime, one_seen, bit_is_set, entered}
 use Rattle.controller.specs.Calls.{CloseTick}
 use Rattle.controller.specs.Effects.{one_more, TickClosed}
 use Rattle.controller.specs.State.{Meaning, cores, table_in, task_in, job_in, waited_in}
@@ -35,13 +35,13 @@ use Rattle.controller.proofs.Waiting.{waited_more}
 
 -- ---- bits, waits and entries
 
-bit_true : (mask s : ℕ) → Bit mask s → bit_set_lem mask s ≡ true
+bit_true : (mask s : ℕ) → Bit mask s → bit_is_set mask s ≡ true
 bit_true mask s h = go (mask / 2 ^ s % 2) h
   where
     go : (x : ℕ) → x ≡ 1 → eqb x 1 ≡ true
     go x e = grind (arith, nat_tests)
 
-bit_false : (mask s : ℕ) → (Bit mask s → ⊥) → bit_set_lem mask s ≡ false
+bit_false : (mask s : ℕ) → (Bit mask s → ⊥) → bit_is_set mask s ≡ false
 bit_false mask s h = go (mask / 2 ^ s % 2) h
   where
     go : (x : ℕ) → (x ≡ 1 → ⊥) → eqb x 1 ≡ false
@@ -198,7 +198,7 @@ module _ (o : Meaning) (laws : LawfulOrder o) (t u : Tables) (b : ℕ → Line) 
                   waits = more_waited ∙ ap Some (omega (arith, older));
                   entered = ap (λ (x : Line). x.unended) (line_open s st.not_told) ∙ ap (map one_seen) m.entered
                       ∙ ap (λ (x : ℕ). record { seen = x; told = bound R s; due = (b s).deadline } ∷ []) (omega (arith, older))
-                      ∙ ap (λ (x : ℕ). record { seen = st.later.age; told = bound R s; due = x } ∷ []) (sym (same_deadline s (bit_set_lem mask s)));
+                      ∙ ap (λ (x : ℕ). record { seen = st.later.age; told = bound R s; due = x } ∷ []) (sym (same_deadline s (bit_is_set mask s)));
                 },
                 since_more (waited_in t s) σ.now past since,
               );
@@ -278,8 +278,8 @@ module _ (o : Meaning) (laws : LawfulOrder o) (t u : Tables) (b : ℕ → Line) 
       let c = closed_by t.bounds sound.epoch p.0 p.1 in
       record {
         exact = kept_exact o t u b sound cl.same;
-        as_told = λ s l. subst (λ (x : ToldTask). HoldsTold x (table_in u s)) (sym (same_task s (bit_set_lem mask s))) (kept_told o t u b sound cl.same s l);
-        due = λ s τ l e. same_deadline s (bit_set_lem mask s) ∙ kept_due o t u b sound cl.same s τ l e;
+        as_told = λ s l. subst (λ (x : ToldTask). HoldsTold x (table_in u s)) (sym (same_task s (bit_is_set mask s))) (kept_told o t u b sound cl.same s l);
+        due = λ s τ l e. same_deadline s (bit_is_set mask s) ∙ kept_due o t u b sound cl.same s τ l e;
         ended = c.0;
         epoch = subst (λ (x : Parts). Epoch o x b')
             (sym (parts_are u (record { plan = t.plan; tasks = t.tasks; jobs = u.jobs; waited = map one_more t.waited; bounds = t.bounds })

@@ -67,13 +67,13 @@ abbrev pub one_seen : Entry → Entry
 one_seen j = record { seen = suc j.seen; told = j.told; due = j.due }
 
 -- bit s of a number
-abbrev pub bit_set_lem : ℕ → ℕ → Bool
-bit_set_lem mask s = mask / 2 ^ s % 2 == 1
+abbrev pub bit_is_set : ℕ → ℕ → Bool
+bit_is_set mask s = mask / 2 ^ s % 2 == 1
 
 -- a successful close adds 1 to what each open job has seen; bit s of its answer ends the job of s
 abbrev pub on_close : ℕ → Result ℕ Refusal → Line → Line
 on_close s (Ok mask) l =
-    cond (bit_set_lem mask s)
+    cond (bit_is_set mask s)
     (record { task = l.task; deadline = l.deadline; unended = []; ended = map one_seen l.unended ++ l.ended })
     (record { task = l.task; deadline = l.deadline; unended = map one_seen l.unended; ended = l.ended })
 on_close s (Err e) l = l

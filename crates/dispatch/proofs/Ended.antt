@@ -23,7 +23,7 @@ module _ (ns : List Node) (arcs : List Arc) (g : Ranged ns arcs) (shape : Shaped
   -- its closing would come after it
   no_opening : role ns last_node ≢ Opening
   no_opening e =
-      let one = ((shape.mates_pair_up_lem last_node is_node).closed_once_lem e).one_closing in
+      let one = ((shape.mates_pair_up last_node is_node).closed_once e).one_closing in
       omega (arith, one.has_it.is_node, g.mates_smaller one.the_one last_node one.has_it.is_node one.has_it.closes)
 
   is_last : Last ns arcs last_node
@@ -37,9 +37,9 @@ module _ (ns : List Node) (arcs : List Arc) (g : Ranged ns arcs) (shape : Shaped
       go Top e = refl
       go (Branch h b) e =
           let smaller = g.homes_smaller last_node h is_node (b, e) in
-          let opens = shape.homes_are_openings_lem last_node is_node h (b, e) in
-          let one = ((shape.mates_pair_up_lem h (omega (arith, smaller, is_node))).closed_once_lem opens).one_closing in
-          absurd (no_arc_out one.the_one ((shape.blocks_are_wired_lem last_node is_node).exit_there h one.the_one (b, e) one.has_it is_last))
+          let opens = shape.homes_are_openings last_node is_node h (b, e) in
+          let one = ((shape.mates_pair_up h (omega (arith, smaller, is_node))).closed_once opens).one_closing in
+          absurd (no_arc_out one.the_one ((shape.blocks_are_wired last_node is_node).exit_there h one.the_one (b, e) one.has_it is_last))
 
   module _ (job : List NodeState) where
     pub ends_job : HasEnded job last_node → JobEnded ns arcs job
@@ -47,7 +47,7 @@ module _ (ns : List Node) (arcs : List Arc) (g : Ranged ns arcs) (shape : Shaped
 
     pub job_ends : JobEnded ns arcs job → HasEnded job last_node
     job_ends e =
-        let one = (shape.one_first_one_last_lem last_node is_node).one_last in
+        let one = (shape.one_first_one_last last_node is_node).one_last in
         let here : InRegion ns (region ns last_node) e.last_node = record { is_node = e.at_top.is_node; lies = e.at_top.lies ∙ sym at_top } in
         let same : e.last_node ≡ last_node =
         one.no_other e.last_node (here, e.is_last) ∙ sym (one.no_other last_node (record { is_node = is_node; lies = refl }, is_last)) in

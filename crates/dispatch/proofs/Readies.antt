@@ -15,20 +15,20 @@ use Rattle.dispatch.specs.Search.{UnderWay, MayStart, Struck}
 module _ (arcs : List Arc) (under may : BitSet) where
   pub struck_none : Marks (Struck arcs under may 0) may
   struck_none =
-      record { only = λ v h. record { may_start_lem = h; none_before = λ k l e g. not_below k l }; every = λ v s. s.may_start_lem }
+      record { only = λ v h. record { may_start = h; none_before = λ k l e g. not_below k l }; every = λ v s. s.may_start }
     where
       not_below : (k : ℕ) → k < 0 → ⊥
       not_below k l = omega arith
 
   struck_more : (m v : ℕ) → Struck arcs under may m v → (to arcs m ≡ v → Has under (from arcs m) → ⊥) → Struck arcs under may (m + 1) v
-  struck_more m v s h = record { may_start_lem = s.may_start_lem; none_before = λ k l e g. go k l e g (cases_eq k m) }
+  struck_more m v s h = record { may_start = s.may_start; none_before = λ k l e g. go k l e g (cases_eq k m) }
     where
       go : (k : ℕ) → k < m + 1 → to arcs k ≡ v → Has under (from arcs k) → (k ≡ m) ⊎ (k ≡ m → ⊥) → ⊥
       go k l e g (inl q) = h (subst (λ (i : ℕ). to arcs i ≡ v) q e) (subst (λ (i : ℕ). Has under (from arcs i)) q g)
       go k l e g (inr d) = s.none_before k (grind arith) e g
 
   struck_less : (m v : ℕ) → Struck arcs under may (m + 1) v → Struck arcs under may m v
-  struck_less m v s = record { may_start_lem = s.may_start_lem; none_before = λ k l e g. s.none_before k (omega arith) e g }
+  struck_less m v s = record { may_start = s.may_start; none_before = λ k l e g. s.none_before k (omega arith) e g }
 
   -- the arc changes nothing: its start is not under way, or its end is struck already
   pub struck_idle : (m : ℕ) (left : BitSet) → Marks (Struck arcs under may m) left → (Has under (from arcs m) → Has left (to arcs m) → ⊥)
@@ -58,7 +58,7 @@ ready_struck ns arcs job under may r g b m s = record { only = λ v h. only v (s
   where
     only : (v : ℕ) → Struck arcs under may (length arcs) v → Ready ns arcs job v
     only v h =
-        let start = m.only v h.may_start_lem in
+        let start = m.only v h.may_start in
         record {
           is_node = start.under_way.is_node;
           taken = start.under_way.taken;
@@ -82,7 +82,7 @@ ready_struck ns arcs job under may r g b m s = record { only = λ v h. only v (s
     every : (v : ℕ) → Ready ns arcs job v → Struck arcs under may (length arcs) v
     every v h =
         record {
-          may_start_lem = m.every v (record { under_way = record { is_node = h.is_node; taken = h.taken; not_ended = h.not_ended }; opening_ended = h.opening_ended });
+          may_start = m.every v (record { under_way = record { is_node = h.is_node; taken = h.taken; not_ended = h.not_ended }; opening_ended = h.opening_ended });
           none_before = λ k l e q.
               let u = b.only (from arcs k) q in
               u.not_ended (h.all_before (from arcs k) (k, record { is_arc = l; starts = refl; stops = e }) u.taken);

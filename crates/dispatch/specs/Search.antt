@@ -36,7 +36,7 @@ pub record MayStart (ns : List Node) (job : List NodeState) (v : ℕ) : Type 0 w
 
 -- in the set `may`, and no arc below the place m leads to it from a node in `under`
 pub record Struck (arcs : List Arc) (under may : BitSet) (m v : ℕ) : Type 0 where
-  pub may_start_lem : Has may v
+  pub may_start : Has may v
   pub none_before : (k : ℕ) → k < m → to arcs k ≡ v → Has under (from arcs k) → ⊥
 
 -- of the sets by slot, that of slot s has n

@@ -10,10 +10,10 @@ use Rattle.table.specs.declared.records.Timing.{Timing}
 use Rattle.plans.specs.declared.plan.Precedence.{Precedence}
 use Rattle.plans.specs.declared.plan.Precedence.TheVariants.{Fixed, Open}
 use Rattle.plans.specs.declared.statement.Statement.{Statement}
-use Rattle.std.specs.Str.Parse.{without_leading_plus, digits_value as value_of_lem}
+use Rattle.std.specs.Str.Parse.{without_leading_plus, digits_value}
 use Rattle.plans.specs.Numerals.{Counts}
 use Rattle.plans.specs.Statements.{Word, ToldTable, timed, filed, Said, cores, order, task, arc, greatest_time, role_word, order_word, texts}
-use Rattle.plans.specs.Statements.{BranchSaid, RegionSaid, PlaceSaid, Sits, Closes, NodeSaid, TimesSaid, FileSaid, TableSaid, Goes_on, Makes, Heard, Found, ReadAs}
+use Rattle.plans.specs.Statements.{BranchSaid, RegionSaid, PlaceSaid, Sits, Closes, NodeSaid, TimesSaid, FileSaid, TableSaid, GoesOn, Makes, Heard, Found, ReadAs}
 use Rattle.plans.proofs.Keywords.{only_cores, only_order, only_task, only_arc, no_keyword}
 use Rattle.plans.proofs.Spelled.{Slice, nth, behind, length_texts, spelled_0, spelled_1, spelled_2, spelled_4, opened_1, opened_2, opened_3}
 
@@ -48,7 +48,7 @@ module _ (ws : Slice) where
   pub order_unsaid : length ws ≡ 1 → (nth ws 0 ≡ codes "fixed" → ⊥) → (nth ws 0 ≡ codes "open" → ⊥) → Refuses (codes "order")
   order_unsaid l fixed-not open-not = only_order (texts ws) go
     where
-      go : (o : Precedence) → Goes_on (texts ws) (order o) → ⊥
+      go : (o : Precedence) → GoesOn (texts ws) (order o) → ⊥
       go Fixed g = fixed-not (ap (λ (v : List Word). get_or v 0 []) (sym (spelled_1 ws l) ∙ g))
       go Open g = open-not (ap (λ (v : List Word). get_or v 0 []) (sym (spelled_1 ws l) ∙ g))
 
@@ -127,7 +127,7 @@ module _ (ws : Slice) where
       same_number : (n : Node) (k : Closes time (texts ws) n) → k.mate ≡ mate
       same_number n k =
           k.place_said.3.value
-          ∙ ap (λ (v : List Word). value_of_lem 10 (without_leading_plus (get_or v 1 []))) (sym k.place_said.2 ∙ opened_2 ws l)
+          ∙ ap (λ (v : List Word). digits_value 10 (without_leading_plus (get_or v 1 []))) (sym k.place_said.2 ∙ opened_2 ws l)
           ∙ sym counts.value
 
   -- nodes
@@ -142,7 +142,7 @@ module _ (ws : Slice) where
   same_time : (n : Node) (t : ℕ) → 2 ≤ length ws → Counts greatest_time (nth ws 1) t → NodeSaid (texts ws) n → n.time ≡ t
   same_time n t l counts k =
       k.time_said.value
-      ∙ ap (λ (v : List Word). value_of_lem 10 (without_leading_plus (get_or v 1 []))) (sym k.words_are ∙ opened_2 ws l)
+      ∙ ap (λ (v : List Word). digits_value 10 (without_leading_plus (get_or v 1 []))) (sym k.words_are ∙ opened_2 ws l)
       ∙ sym counts.value
 
   role_told : (n : Node) → 2 ≤ length ws → NodeSaid (texts ws) n → role_word n.role ≡ nth ws 0

@@ -8,14 +8,14 @@ use Rattle.table.specs.declared.records.Role.{Role}
 use Rattle.table.specs.declared.records.Role.TheVariants.{Plain, Opening, Closing}
 use Rattle.plans.specs.declared.plan.Precedence.{Precedence}
 use Rattle.plans.specs.declared.plan.Precedence.TheVariants.{Fixed, Open}
-use Rattle.std.specs.Str.Parse.{without_leading_plus, digits_value as value_of_lem}
+use Rattle.std.specs.Str.Parse.{without_leading_plus, digits_value}
 use Rattle.plans.specs.Numerals.{Counts}
 use Rattle.plans.specs.Statements.{Word, ToldTable, timed, filed, Said, cores, order, task, node, arc, order_word, role_word, keyword}
-use Rattle.plans.specs.Statements.{RegionSaid, PlaceSaid, NodeSaid, TableSaid, TaskSaid, Goes_on, OneStatement}
+use Rattle.plans.specs.Statements.{RegionSaid, PlaceSaid, NodeSaid, TableSaid, TaskSaid, GoesOn, OneStatement}
 
 -- a word is one number at most
 one_number : (a b : ℕ) (v w : Word) (m n : ℕ) → v ≡ w → Counts a v m → Counts b w n → m ≡ n
-one_number a b v w m n e j k = j.value ∙ ap (λ (x : Word). value_of_lem 10 (without_leading_plus x)) e ∙ sym k.value
+one_number a b v w m n e j k = j.value ∙ ap (λ (x : Word). digits_value 10 (without_leading_plus x)) e ∙ sym k.value
 
 -- the word at a place of two lists that are equal
 at : (k : ℕ) (vs ws : List Word) → vs ≡ ws → get_or vs k [] ≡ get_or ws k []
@@ -82,13 +82,13 @@ one_task ws a b m n t u s v =
     ap (λ (x : Word). task x m t) (at 0 _ _ e) ∙ ap (λ (x : ℕ). task b x t) (one_number _ _ _ _ m n (at 2 _ _ e) s.slot_said v.slot_said)
     ∙ ap (task b n) (one_table v.rest t u (subst (λ (l : List Word). TableSaid l t) (ap (λ (l : List Word). drop 3 l) e) s.table_said) v.table_said)
 
-one_arc : (ws : List Word) (a b : Arc) → Goes_on ws (arc a) → Goes_on ws (arc b) → arc a ≡ arc b
+one_arc : (ws : List Word) (a b : Arc) → GoesOn ws (arc a) → GoesOn ws (arc b) → arc a ≡ arc b
 one_arc ws a b s t =
     let e = sym s.2 ∙ t.2 in
     ap (λ (x : ℕ). arc (record { from = x; to = a.to })) (one_number _ _ _ _ a.from b.from (at 0 _ _ e) s.3 t.3)
     ∙ ap (λ (x : ℕ). arc (record { from = b.from; to = x })) (one_number _ _ _ _ a.to b.to (at 1 _ _ e) s.4 t.4)
 
-one_rest : (ws : List Word) (s t : Said) → keyword s ≡ keyword t → Goes_on ws s → Goes_on ws t → s ≡ t
+one_rest : (ws : List Word) (s t : Said) → keyword s ≡ keyword t → GoesOn ws s → GoesOn ws t → s ≡ t
 one_rest ws (cores m) (cores n) e g h = ap cores (one_number _ _ _ _ m n (at 0 _ _ (sym g.1 ∙ h.1)) g.2 h.2)
 one_rest ws (cores m) (order o) e g h = absurd (omega (arith, byte 0 _ _ e))
 one_rest ws (cores m) (task a n t) e g h = absurd (omega (arith, byte 0 _ _ e))

@@ -1,11 +1,11 @@
 -- Numbers as they are written. Assumes nothing.
 use Rattle.std.specs.Prelude.{◌≡◌, ℕ, ◌≤◌, List, Some, None, Option}
-use Rattle.std.specs.Str.Parse.{IsNumeral, without_leading_plus, digits_value as value_of_lem}
+use Rattle.std.specs.Str.Parse.{IsNumeral, without_leading_plus, digits_value}
 
 -- the word is n in decimal digits, a plus before them or not, and n is at most so much
 pub record Counts (most : ℕ) (word : List ℕ) (n : ℕ) : Type 0 where
   pub digits : IsNumeral 10 (without_leading_plus word)
-  pub value : n ≡ value_of_lem 10 (without_leading_plus word)
+  pub value : n ≡ digits_value 10 (without_leading_plus word)
   pub small : n ≤ most
 
 -- the number that the word is, if it is one

@@ -121,12 +121,12 @@ pub record TaskSaid (words : List Word) (name : Word) (slot : ℕ) (t : ToldTabl
   pub table_said : TableSaid rest t
 
 -- the words behind the first make the statement
-abbrev pub Goes_on : List Word → Said → Type 0
-Goes_on words (cores n) = (number : Word) × (words ≡ number ∷ []) × Counts 255 number n
-Goes_on words (order o) = words ≡ order_word o ∷ []
-Goes_on words (task name slot t) = TaskSaid words name slot t
-Goes_on words (node n) = NodeSaid words n
-Goes_on words (arc a) = (from : Word) × (to : Word) × (words ≡ from ∷ to ∷ []) × Counts 255 from a.from × Counts 255 to a.to
+abbrev pub GoesOn : List Word → Said → Type 0
+GoesOn words (cores n) = (number : Word) × (words ≡ number ∷ []) × Counts 255 number n
+GoesOn words (order o) = words ≡ order_word o ∷ []
+GoesOn words (task name slot t) = TaskSaid words name slot t
+GoesOn words (node n) = NodeSaid words n
+GoesOn words (arc a) = (from : Word) × (to : Word) × (words ≡ from ∷ to ∷ []) × Counts 255 from a.from × Counts 255 to a.to
 
 -- the first word of a statement
 abbrev pub keyword : Said → Word
@@ -139,7 +139,7 @@ keyword (arc a) = codes "arc"
 -- the words make the statement
 abbrev pub Makes : List Word → Said → Type 0
 Makes [] s = ⊥
-Makes (first ∷ words) s = (first ≡ keyword s) × Goes_on words s
+Makes (first ∷ words) s = (first ≡ keyword s) × GoesOn words s
 
 -- words make one statement at most
 abbrev pub OneStatement : Type 0

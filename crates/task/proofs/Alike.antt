@@ -7,7 +7,7 @@ use Rattle.table.specs.declared.records.Region.{Region}
 use Rattle.table.specs.declared.records.Region.TheVariants.{Branch}
 use Rattle.task.specs.Graph.{role, region, IsNode, HomeOf, InRegion, HasBranch, ClosingOf, BeginsUnit, EndsUnit, Inner, Entry, Exit, OfAKind, First, Last}
 use Rattle.task.specs.Graph.{from, to}
-use Rattle.task.specs.Shape.{HomeOpens, ClosedOnce, Pairs_up, CountsUp, LawfulArc, HasEnds, HasEndsAt, Wired, Shaped}
+use Rattle.task.specs.Shape.{HomeOpens, ClosedOnce, PairsUp, CountsUp, LawfulArc, HasEnds, HasEndsAt, Wired, Shaped}
 
 -- as many nodes, of the same roles in the same regions
 pub record Alike (ns ms : List Node) : Type 0 where
@@ -74,16 +74,16 @@ module _ (ns ms : List Node) (a : Alike ns ms) (arcs : List Arc) where
   home_opens_lem : (v : ℕ) → HomeOpens ns v → HomeOpens ms v
   home_opens_lem v f h k = sym (a.roles h) ∙ f h (home_of ms ns c v h k)
 
-  closed_once_lem : (o : ℕ) → ClosedOnce ns o → ClosedOnce ms o
-  closed_once_lem o k = record {
+  closed_once : (o : ℕ) → ClosedOnce ns o → ClosedOnce ms o
+  closed_once o k = record {
     one_closing = like_just_one (ClosingOf ns o) (ClosingOf ms o) (closing_of ns ms a o) (closing_of ms ns c o) k.one_closing;
     beside = λ x l. sym (a.regions x) ∙ k.beside x (closing_of ms ns c o x l) ∙ a.regions o;
   }
 
-  pairs_up_lem : (v : ℕ) → Pairs_up ns v → Pairs_up ms v
+  pairs_up_lem : (v : ℕ) → PairsUp ns v → PairsUp ms v
   pairs_up_lem v p = record {
     mate_opens = λ o e. sym (a.roles o) ∙ p.mate_opens o (a.roles v ∙ e);
-    closed_once_lem = λ e. closed_once_lem v (p.closed_once_lem (a.roles v ∙ e));
+    closed_once = λ e. closed_once v (p.closed_once (a.roles v ∙ e));
   }
 
   counts_up : (v : ℕ) → CountsUp ns v → CountsUp ms v
@@ -120,10 +120,10 @@ module _ (ns ms : List Node) (a : Alike ns ms) (arcs : List Arc) where
 
   pub alike_shaped : Shaped ns arcs → Shaped ms arcs
   alike_shaped s = record {
-    homes_are_openings_lem = λ v i. home_opens_lem v (s.homes_are_openings_lem v (is_node ms ns c v i));
-    mates_pair_up_lem = λ v i. pairs_up_lem v (s.mates_pair_up_lem v (is_node ms ns c v i));
-    branches_count_up_lem = λ v i. counts_up v (s.branches_count_up_lem v (is_node ms ns c v i));
-    arcs_are_lawful_lem = λ k l. lawful_arc k (s.arcs_are_lawful_lem k l);
-    one_first_one_last_lem = λ v i. has_ends_at v (s.one_first_one_last_lem v (is_node ms ns c v i));
-    blocks_are_wired_lem = λ v i. wired v (s.blocks_are_wired_lem v (is_node ms ns c v i));
+    homes_are_openings = λ v i. home_opens_lem v (s.homes_are_openings v (is_node ms ns c v i));
+    mates_pair_up = λ v i. pairs_up_lem v (s.mates_pair_up v (is_node ms ns c v i));
+    branches_count_up = λ v i. counts_up v (s.branches_count_up v (is_node ms ns c v i));
+    arcs_are_lawful = λ k l. lawful_arc k (s.arcs_are_lawful k l);
+    one_first_one_last = λ v i. has_ends_at v (s.one_first_one_last v (is_node ms ns c v i));
+    blocks_are_wired = λ v i. wired v (s.blocks_are_wired v (is_node ms ns c v i));
   }

@@ -76,12 +76,12 @@ ok_err : {P : Type 0} (t : Table) (f : Fault) → ◌≡◌ {A = Result Table Fa
 ok_err t f e = let z : ◌≡◌ {A = ℕ} 0 1 = cc in absurd (omega arith)
 
 shaped_holds : (ns : List Node) (arcs : List Arc) → Shaped ns arcs → (r : Rule) → Holds ns arcs r
-shaped_holds ns arcs s HomesAreOpenings = s.homes_are_openings_lem
-shaped_holds ns arcs s MatesPairUp = s.mates_pair_up_lem
-shaped_holds ns arcs s BranchesCountUp = s.branches_count_up_lem
-shaped_holds ns arcs s ArcsAreLawful = s.arcs_are_lawful_lem
-shaped_holds ns arcs s OneFirstOneLast = s.one_first_one_last_lem
-shaped_holds ns arcs s BlocksAreWired = s.blocks_are_wired_lem
+shaped_holds ns arcs s HomesAreOpenings = s.homes_are_openings
+shaped_holds ns arcs s MatesPairUp = s.mates_pair_up
+shaped_holds ns arcs s BranchesCountUp = s.branches_count_up
+shaped_holds ns arcs s ArcsAreLawful = s.arcs_are_lawful
+shaped_holds ns arcs s OneFirstOneLast = s.one_first_one_last
+shaped_holds ns arcs s BlocksAreWired = s.blocks_are_wired
 
 -- a task that breaks a rule does not have the shape
 not_shaped : (ns : List Node) (arcs : List Arc) (r : Rule) (at : ℕ) → BrokenAt ns arcs r at → Shaped ns arcs → ⊥

@@ -6,7 +6,7 @@ use Rattle.table.specs.declared.records.Region.{Region}
 use Rattle.table.specs.declared.records.Region.TheVariants.{Branch}
 use Rattle.table.specs.declared.records.Role.TheVariants.{Opening, Closing}
 use Rattle.task.specs.Graph.{role, region, time, from, to, IsNode, HomeOf, InRegion, HasBranch, ClosingOf, Joined, BeginsUnit, EndsUnit, Inner, Entry, Exit, First, Last, Ranged}
-use Rattle.task.specs.Shape.{HomeOpens, Pairs_up, CountsUp, LawfulArc, HasEnds, Wired, Shaped}
+use Rattle.task.specs.Shape.{HomeOpens, PairsUp, CountsUp, LawfulArc, HasEnds, Wired, Shaped}
 use Rattle.task.proofs.Computed.{Test, t_like, t_and, t_or, t_not, t_implies, t_eq, t_lt, t_le, t_all, t_some, t_just_one, t_region, t_branch, t_home, t_opening, t_closing, t_mate, no_test, holds}
 
 module _ (ns : List Node) where
@@ -55,10 +55,10 @@ module _ (ns : List Node) where
   t_closings o P t =
       t_like (λ f c k. f c k.is_node k) (λ f c l k. f c k) (t_all (length ns) (λ c. ClosingOf ns o c → P c) (λ c. t_implies (t_closing_of o c) (t c)))
 
-  abbrev t_pairs_up : (v : ℕ) → Test (Pairs_up ns v)
+  abbrev t_pairs_up : (v : ℕ) → Test (PairsUp ns v)
   t_pairs_up v =
-      t_like (λ p. record { mate_opens = p.0; closed_once_lem = λ op. record { one_closing = (p.1 op).0; beside = (p.1 op).1 } })
-      (λ s. (s.mate_opens, λ op. ((s.closed_once_lem op).one_closing, (s.closed_once_lem op).beside)))
+      t_like (λ p. record { mate_opens = p.0; closed_once = λ op. record { one_closing = (p.1 op).0; beside = (p.1 op).1 } })
+      (λ s. (s.mate_opens, λ op. ((s.closed_once op).one_closing, (s.closed_once op).beside)))
       (t_and (t_mate (role ns v) (λ o. role ns o ≡ Opening) (λ o. t_opening (role ns o)))
       (t_implies (t_opening (role ns v))
       (t_and (t_just_one (length ns) (ClosingOf ns v) (λ c k. k.is_node) (t_closing_of v))
@@ -152,16 +152,16 @@ module _ (ns : List Node) where
     t_shaped =
         t_like
         (λ p. record {
-          homes_are_openings_lem = p.0;
-          mates_pair_up_lem = p.1.0;
-          branches_count_up_lem = p.1.1.0;
-          arcs_are_lawful_lem = p.1.1.1.0;
-          one_first_one_last_lem = p.1.1.1.1.0;
-          blocks_are_wired_lem = p.1.1.1.1.1;
+          homes_are_openings = p.0;
+          mates_pair_up = p.1.0;
+          branches_count_up = p.1.1.0;
+          arcs_are_lawful = p.1.1.1.0;
+          one_first_one_last = p.1.1.1.1.0;
+          blocks_are_wired = p.1.1.1.1.1;
         })
-        (λ s. (s.homes_are_openings_lem, (s.mates_pair_up_lem, (s.branches_count_up_lem, (s.arcs_are_lawful_lem, (s.one_first_one_last_lem, s.blocks_are_wired_lem))))))
+        (λ s. (s.homes_are_openings, (s.mates_pair_up, (s.branches_count_up, (s.arcs_are_lawful, (s.one_first_one_last, s.blocks_are_wired))))))
         (t_and (t_all (length ns) (HomeOpens ns) (λ v. t_homes v (λ h. role ns h ≡ Opening) (λ h. t_opening (role ns h))))
-        (t_and (t_all (length ns) (Pairs_up ns) t_pairs_up)
+        (t_and (t_all (length ns) (PairsUp ns) t_pairs_up)
         (t_and (t_all (length ns) (CountsUp ns) t_counts_up)
         (t_and (t_all (length arcs) (LawfulArc ns arcs) t_lawful)
         (t_and (t_all (length ns) (λ v. HasEnds ns arcs (region ns v)) (λ v. t_has_ends (region ns v))) (t_all (length ns) (Wired ns arcs) t_wired))))))

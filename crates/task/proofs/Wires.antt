@@ -12,7 +12,7 @@ use Rattle.task.proofs.Regions.{one_home}
 
 module _ (ns : List Node) (arcs : List Arc) (gates : Gates) (ranged : Ranged ns arcs) (homes : AllHomesAreOpenings ns) (mates : AllMatesPairUp ns) (g : GatesOf ns arcs gates) (v : ℕ) (n : IsNode ns v) where
   closed : (h : ℕ) → HomeOf ns v h → ClosedOnce ns h
-  closed h i = let o = homes v n h i in (mates h (opening_is_node ns h o)).closed_once_lem o
+  closed h i = let o = homes v n h i in (mates h (opening_is_node ns h o)).closed_once o
 
   pub wired_gates : Gated ns gates v → Wired ns arcs v
   wired_gates w = record { entry_there = entry_there; no_other_entry = no_other_entry; exit_there = exit_there; no_other_exit = no_other_exit }

@@ -4,7 +4,7 @@ use Rattle.table.specs.declared.records.Arc.{Arc}
 use Rattle.table.specs.declared.records.Node.{Node}
 use Rattle.task.specs.declared.rules.Rule.{Rule}
 use Rattle.task.specs.declared.rules.Rule.TheVariants.{HomesAreOpenings, MatesPairUp, BranchesCountUp, ArcsAreLawful, OneFirstOneLast, BlocksAreWired}
-use Rattle.task.specs.Shape.{HomeOpens, Pairs_up, CountsUp, LawfulArc, HasEndsAt, Wired}
+use Rattle.task.specs.Shape.{HomeOpens, PairsUp, CountsUp, LawfulArc, HasEndsAt, Wired}
 use Rattle.sets.specs.Tests.{FailsFirst}
 
 abbrev pub rule_number : Rule → ℕ
@@ -27,7 +27,7 @@ places ns arcs BlocksAreWired = length ns
 -- what the rule says of the node v, or of the arc at that place
 abbrev pub HoldsAt : List Node → List Arc → Rule → ℕ → Type 0
 HoldsAt ns arcs HomesAreOpenings v = HomeOpens ns v
-HoldsAt ns arcs MatesPairUp v = Pairs_up ns v
+HoldsAt ns arcs MatesPairUp v = PairsUp ns v
 HoldsAt ns arcs BranchesCountUp v = CountsUp ns v
 HoldsAt ns arcs ArcsAreLawful v = LawfulArc ns arcs v
 HoldsAt ns arcs OneFirstOneLast v = HasEndsAt ns arcs v

@@ -20,12 +20,12 @@ pub record ClosedOnce (ns : List Node) (o : ℕ) : Type 0 where
   pub beside : (c : ℕ) → ClosingOf ns o c → region ns c ≡ region ns o
 
 -- a closing's mate is an opening, and an opening is closed once
-pub record Pairs_up (ns : List Node) (v : ℕ) : Type 0 where
+pub record PairsUp (ns : List Node) (v : ℕ) : Type 0 where
   pub mate_opens : (o : ℕ) → role ns v ≡ Closing o → role ns o ≡ Opening
-  pub closed_once_lem : role ns v ≡ Opening → ClosedOnce ns v
+  pub closed_once : role ns v ≡ Opening → ClosedOnce ns v
 
 abbrev pub AllMatesPairUp : List Node → Type 0
-AllMatesPairUp ns = (v : ℕ) → IsNode ns v → Pairs_up ns v
+AllMatesPairUp ns = (v : ℕ) → IsNode ns v → PairsUp ns v
 
 -- the branches of o are numbered from 0 and none is skipped
 pub record BranchesRun (ns : List Node) (o : ℕ) : Type 0 where
@@ -71,9 +71,9 @@ AllBlocksAreWired ns arcs = (v : ℕ) → IsNode ns v → Wired ns arcs v
 
 -- the rules in the sequence in which they are tried
 pub record Shaped (ns : List Node) (arcs : List Arc) : Type 0 where
-  pub homes_are_openings_lem : AllHomesAreOpenings ns
-  pub mates_pair_up_lem : AllMatesPairUp ns
-  pub branches_count_up_lem : AllBranchesCountUp ns
-  pub arcs_are_lawful_lem : AllArcsAreLawful ns arcs
-  pub one_first_one_last_lem : AllHaveOneFirstOneLast ns arcs
-  pub blocks_are_wired_lem : AllBlocksAreWired ns arcs
+  pub homes_are_openings : AllHomesAreOpenings ns
+  pub mates_pair_up : AllMatesPairUp ns
+  pub branches_count_up : AllBranchesCountUp ns
+  pub arcs_are_lawful : AllArcsAreLawful ns arcs
+  pub one_first_one_last : AllHaveOneFirstOneLast ns arcs
+  pub blocks_are_wired : AllBlocksAreWired ns arcs

@@ -2,7 +2,7 @@
 ghost use Rattle.std.specs.Prelude.{◌≤◌, length};
 ghost use Rattle.task.specs.Graph.{ClosingOf};
 ghost use Rattle.sets.specs.Sets.{Marks};
-ghost use Rattle.task.specs.Shape.{ClosedOnce, Pairs_up};
+ghost use Rattle.task.specs.Shape.{ClosedOnce, PairsUp};
 ghost use Rattle.sets.specs.Tests.{Says, Tried};
 
 use crate::views::{closes, is_opening, region_of, role_of, same_region};
@@ -37,7 +37,7 @@ fn closed_once(nodes: &[Node], opening: usize) -> bool
 // Whether a closing's mate is an opening, and an opening is closed once.
 fn pairs_up(nodes: &[Node], v: usize) -> bool
     requires { length nodes.now ≤ 64 }
-    ensures { Says result (Pairs_up nodes.now v) }
+    ensures { Says result (PairsUp nodes.now v) }
 {
     match role_of(nodes, v) {
         Role::Plain => true,
@@ -49,7 +49,7 @@ fn pairs_up(nodes: &[Node], v: usize) -> bool
 // The first closing whose mate is no opening, or opening that is not closed once.
 pub(crate) fn mates_pair_up(nodes: &[Node]) -> Option<usize>
     requires { length nodes.now ≤ 64 }
-    ensures { Tried (Pairs_up nodes.now) (length nodes.now) result }
+    ensures { Tried (PairsUp nodes.now) (length nodes.now) result }
 {
     for v in 0..nodes.len() {
         if !pairs_up(nodes, v) {

@@ -8,6 +8,6 @@ tasks_nest_lem ns arcs r s =
       homes_smaller = r.homes_smaller;
       branches_few = r.branches_few;
       times_short = r.times_short;
-      homes_are_openings_lem = s.homes_are_openings_lem;
-      branches_count_up_lem = s.branches_count_up_lem;
+      homes_are_openings = s.homes_are_openings;
+      branches_count_up = s.branches_count_up;
     }

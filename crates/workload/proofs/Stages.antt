@@ -97,13 +97,13 @@ module _ (ns : List Node) (i : ℕ) (rows : List (List ℕ)) (picks : List ℕ) 
     where
       go : HasBranch ns i p ⊎ (p ≡ 0) → HasBranch ns i p
       go (inl h) = h
-      go (inr z) = subst (HasBranch ns i) (sym z) (nested.branches_count_up_lem i n op).branch_zero
+      go (inr z) = subst (HasBranch ns i) (sym z) (nested.branches_count_up i n op).branch_zero
 
   pick_zero : role ns i ≢ Opening → p ≡ 0
   pick_zero d = go weighed_or_zero
     where
       go : HasBranch ns i p ⊎ (p ≡ 0) → p ≡ 0
-      go (inl (v, lies)) = absurd (d (nested.homes_are_openings_lem v lies.is_node i (p, lies.lies)))
+      go (inl (v, lies)) = absurd (d (nested.homes_are_openings v lies.is_node i (p, lies.lies)))
       go (inr z) = z
 
   pub gain_fits : time ns i + weighed rows i p < 2 ^ 64

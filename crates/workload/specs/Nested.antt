@@ -12,5 +12,5 @@ pub record Nested (ns : List Node) : Type 0 where
   pub homes_smaller : HomesSmaller ns
   pub branches_few : BranchesFew ns
   pub times_short : (v : ℕ) → IsNode ns v → time ns v ≤ 65535
-  pub homes_are_openings_lem : AllHomesAreOpenings ns
-  pub branches_count_up_lem : AllBranchesCountUp ns
+  pub homes_are_openings : AllHomesAreOpenings ns
+  pub branches_count_up : AllBranchesCountUp ns

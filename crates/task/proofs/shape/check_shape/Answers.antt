@@ -27,10 +27,10 @@ returns-in-Some-blocks_are_wired c =
 pub returns : goal.returns
 returns c =
     record {
-      homes_are_openings_lem = c.in_default.ensures;
-      mates_pair_up_lem = c.in_default-mates_pair_up.ensures;
-      branches_count_up_lem = c.in_default-branches_count_up.ensures;
-      arcs_are_lawful_lem = c.in_default-arcs_are_lawful.ensures;
-      one_first_one_last_lem = c.in_default-one_first_one_last.ensures;
-      blocks_are_wired_lem = c.in_default-blocks_are_wired.ensures;
+      homes_are_openings = c.in_default.ensures;
+      mates_pair_up = c.in_default-mates_pair_up.ensures;
+      branches_count_up = c.in_default-branches_count_up.ensures;
+      arcs_are_lawful = c.in_default-arcs_are_lawful.ensures;
+      one_first_one_last = c.in_default-one_first_one_last.ensures;
+      blocks_are_wired = c.in_default-blocks_are_wired.ensures;
     }
