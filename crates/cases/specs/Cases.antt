@@ -1,7 +1,7 @@
 -- The worked cases as a list of data, and what each says of the definitions. Assumes nothing.
 use Rattle.std.specs.Prelude.{◌≡◌, ℕ, ◌≤◌, List, [], ◌∷◌, ◌++◌, Some, None, Ok, Err, Option, Result}
 use Rattle.std.proofs.Common.{lit≤}
-use Rattle.std.specs.List.{AllByRecursion as All}
+use Rattle.std.specs.List.{AllByRecursion}
 use Rattle.table.specs.declared.fault.Fault.{Fault}
 use Rattle.table.specs.declared.fault.Fault.TheVariants.{Range}
 use Rattle.table.specs.declared.fault.Field.TheVariants.{Time}
@@ -118,4 +118,4 @@ abbrev pub cases : List Case
 cases = task_cases ++ (plan_cases ++ other_cases)
 
 abbrev pub CasesHold : Type 0
-CasesHold = All Holds cases
+CasesHold = AllByRecursion Holds cases

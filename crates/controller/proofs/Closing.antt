@@ -1,7 +1,7 @@
 -- A tick is closed: what holds between calls goes on to hold.
 use Rattle.std.proofs.Common.{◌≡◌, ℕ, suc, ◌+◌, ◌/◌, ◌%◌, ◌^◌, ◌<◌, ◌≤◌, min, Bool, true, false, cond, eqb, ◌⊎◌, List, [], ◌∷◌, ◌++◌, map, length, replicate, Some, None, Ok, Option, sym, refl, ap, ◌∙◌, subst, inl, inr, arith}
 use Rattle.std.proofs.lemmas.Bool.Decides.{nat_tests}
-use Rattle.std.specs.List.{AllByRecursion as All}
+use Rattle.std.specs.List.{AllByRecursion}
 use Rattle.task.specs.declared.held.Task.{Task}
 use Rattle.task.specs.Held.{nodes_of, arcs_of}
 use Rattle.task.proofs.Recovered.{lawful_task}
@@ -92,7 +92,7 @@ module _ (o : Meaning) (laws : LawfulOrder o) (t u : Tables) (b : ℕ → Line) 
   -- what is left of a slot after the tick: no entry, or those of the open job; and what ended
   pub record LineAfter (R : List ℕ) (s time : ℕ) (x : Slot JobState) : Type 0 where
     pub slot : SameSlot t.plan s (bound R s) (b' s).deadline time x (job_in u s) (one_more (waited_in t s)) (b' s).unended
-    pub ended : All EndedInTime (b' s).ended
+    pub ended : AllByRecursion EndedInTime (b' s).ended
 
   -- ---- not admitted: no job is open, and none ends
   resting : ((s : ℕ) → s < 16 → Resting t.jobs b s) → (s : ℕ) → s < 16 → Resting u.jobs b' s
@@ -100,10 +100,10 @@ module _ (o : Meaning) (laws : LawfulOrder o) (t u : Tables) (b : ℕ → Line) 
       let m = no_job_left s (rest s l).no_job (closed_at s l) in
       record { no_job = m.same; no_entry = ap (λ (x : Line). x.unended) (line_open s m.not_told) ∙ ap (map one_seen) (rest s l).no_entry }
 
-  rest_ended : ((s : ℕ) → s < 16 → Resting t.jobs b s) → (s : ℕ) → s < 16 → All EndedInTime (b' s).ended
+  rest_ended : ((s : ℕ) → s < 16 → Resting t.jobs b s) → (s : ℕ) → s < 16 → AllByRecursion EndedInTime (b' s).ended
   rest_ended rest s l =
       let m = no_job_left s (rest s l).no_job (closed_at s l) in
-      subst (λ (x : Line). All EndedInTime x.ended) (sym (line_open s m.not_told)) (sound.ended s l)
+      subst (λ (x : Line). AllByRecursion EndedInTime x.ended) (sym (line_open s m.not_told)) (sound.ended s l)
 
   -- ---- admitted: the run goes on by the tick
   module _ (R : List ℕ) (running : Running o (parts t) b R) (n : ℕ) (placed : PlacedBy o t.tasks t.jobs (cores t) spots n) where
@@ -138,7 +138,7 @@ module _ (o : Meaning) (laws : LawfulOrder o) (t u : Tables) (b : ℕ → Line) 
           let m = no_job_left s none (closed_at s l) in
           record {
             slot = (m.same, ap (λ (x : Line). x.unended) (line_open s m.not_told) ∙ ap (map one_seen) entries, since_more (waited_in t s) σ.now past since);
-            ended = subst (λ (x : Line). All EndedInTime x.ended) (sym (line_open s m.not_told)) (sound.ended s l);
+            ended = subst (λ (x : Line). AllByRecursion EndedInTime x.ended) (sym (line_open s m.not_told)) (sound.ended s l);
           }
 
       module _ (r : ℕ) (spent : List ℕ) (k : JobState) (past : List Done)
@@ -176,8 +176,8 @@ module _ (o : Meaning) (laws : LawfulOrder o) (t u : Tables) (b : ℕ → Line) 
                     (sym more_waited)
                     (since_release, subst (λ (w : Option ℕ). Since w (suc σ.now) past) more_waited (since_more (waited_in t s) σ.now past since)),
               );
-              ended = subst (λ (x : Line). All EndedInTime x.ended) (sym (line_ended s e.told))
-                  (subst (λ (x : List Entry). All EndedInTime (map one_seen x ++ (b s).ended)) (sym m.entered)
+              ended = subst (λ (x : Line). AllByRecursion EndedInTime x.ended) (sym (line_ended s e.told))
+                  (subst (λ (x : List Entry). AllByRecursion EndedInTime (map one_seen x ++ (b s).ended)) (sym m.entered)
                   (record { in_bound = omega (arith, on.0, m.age); in_deadline = told_due.0 }, sound.ended s l));
             }
 
@@ -202,7 +202,7 @@ module _ (o : Meaning) (laws : LawfulOrder o) (t u : Tables) (b : ℕ → Line) 
                 },
                 since_more (waited_in t s) σ.now past since,
               );
-              ended = subst (λ (x : Line). All EndedInTime x.ended) (sym (line_open s st.not_told)) (sound.ended s l);
+              ended = subst (λ (x : Line). AllByRecursion EndedInTime x.ended) (sym (line_open s st.not_told)) (sound.ended s l);
             }
           where
             young : m.the_job.age + 1 < 1000000
@@ -266,7 +266,7 @@ module _ (o : Meaning) (laws : LawfulOrder o) (t u : Tables) (b : ℕ → Line) 
   -- ---- either way
 
   abbrev ended_by : Option (List ℕ) → Type 0
-  ended_by bs = ((s : ℕ) → s < 16 → All EndedInTime (b' s).ended) × EpochBy o (record { plan = t.plan; tasks = t.tasks; jobs = u.jobs; waited = map one_more t.waited; bounds = bs }) b' bs
+  ended_by bs = ((s : ℕ) → s < 16 → AllByRecursion EndedInTime (b' s).ended) × EpochBy o (record { plan = t.plan; tasks = t.tasks; jobs = u.jobs; waited = map one_more t.waited; bounds = bs }) b' bs
 
   closed_by : (bs : Option (List ℕ)) → EpochBy o (parts t) b bs → (n : ℕ) → PlacedBy o t.tasks t.jobs (cores t) spots n → ended_by bs
   closed_by None rest n placed = (rest_ended rest, resting rest)

@@ -2,7 +2,7 @@
 use Rattle.std.proofs.Common.{◌≡◌, ℕ, zero, suc, ◌+◌, ◌<◌, ◌≤◌, Bool, true, false, cond, ◌&&◌, eqb, ◌⊎◌, List, [], ◌∷◌, length, Some, None, Option, sym, refl, ap, ◌∙◌, subst, inl, inr, arith}
 use Rattle.std.proofs.lemmas.Bool.{cases_eq}
 use Rattle.std.proofs.lemmas.Bool.Decides.{nat_tests}
-use Rattle.std.specs.List.{AllByRecursion as All}
+use Rattle.std.specs.List.{AllByRecursion}
 use Rattle.held_jobs.specs.Job.{Outcome}
 use Rattle.runs.specs.Counts.{bit}
 use Rattle.runs.specs.Jobs.{Turn}
@@ -51,12 +51,12 @@ module _ (s v : ℕ) where
 
 -- what holds of each core holds of each place
 pub each_place : (P : Place Outcome → Type 0) (spots : List (Option Spot)) (outcomes : List ℕ) (c : ℕ)
-    → ((b : ℕ) (p : Spot) → b < c → spot_at spots b ≡ Some p → P (place_of p (byte_at outcomes b))) → All P (places spots outcomes c)
+    → ((b : ℕ) (p : Spot) → b < c → spot_at spots b ≡ Some p → P (place_of p (byte_at outcomes b))) → AllByRecursion P (places spots outcomes c)
 each_place P spots outcomes zero h = tt
 each_place P spots outcomes (suc c) h = go (spot_at spots c) refl (each_place P spots outcomes c (λ b p l e. h b p (omega arith) e))
   where
-    go : (x : Option Spot) → spot_at spots c ≡ x → All P (places spots outcomes c)
-        → All P (with_place x (byte_at outcomes c) (places spots outcomes c))
+    go : (x : Option Spot) → spot_at spots c ≡ x → AllByRecursion P (places spots outcomes c)
+        → AllByRecursion P (with_place x (byte_at outcomes c) (places spots outcomes c))
     go None e rest = rest
     go (Some p) e rest = (h c p (omega arith) e, rest)
 

@@ -3,7 +3,7 @@ use Rattle.std.proofs.Common.{◌≡◌, ℕ, ◌<◌, ◌≤◌, Bool, true, fa
 use Rattle.std.proofs.lemmas.List.{get_or_default}
 use Rattle.std.proofs.lemmas.Bool.{cases_eq, cases_lt}
 use Rattle.std.proofs.lemmas.Bool.Decides.{nat_tests}
-use Rattle.std.specs.List.{AllByRecursion as All}
+use Rattle.std.specs.List.{AllByRecursion}
 use Rattle.table.specs.declared.records.Table.{Table}
 use Rattle.task.specs.declared.held.Task.{Task}
 use Rattle.bounds.specs.declared.plan.Demand.{Demand}
@@ -93,7 +93,7 @@ module _ (o : Meaning) (t u : Tables) (b b' : ℕ → Line) (s : ℕ) (task : Op
               )
           | inr n ↦ due-other k n ∙ sound.due k τ m (sym (at_other t.tasks u.tasks s task None edited.tasks k n) ∙ e)
         ];
-        ended = λ k m. subst (All EndedInTime) (sym (same_ended k)) (sound.ended k m);
+        ended = λ k m. subst (AllByRecursion EndedInTime) (sym (same_ended k)) (sound.ended k m);
         epoch = subst (EpochBy o (parts u) b') (sym edited.no_bounds) (λ k m. record {
           no_job = ap (λ (js : List (Option Job)). job_at js k) edited.same_jobs ∙ none k m;
           no_entry = same-open k ∙ no_entries o (parts t) b t.bounds sound.epoch none k m;

@@ -1,6 +1,6 @@
 -- What holds of a controller between two calls: while its tasks are admitted, they have come by a run of their plan to where they are.
 use Rattle.std.proofs.Common.{◌≡◌, ℕ, ◌+◌, ◌<◌, ◌≤◌, List, [], ◌∷◌, get_or, Some, None, Option}
-use Rattle.std.specs.List.{AllByRecursion as All}
+use Rattle.std.specs.List.{AllByRecursion}
 use Rattle.table.specs.declared.records.Table.{Table}
 use Rattle.table.specs.Whole.{held as table_held, no_timing}
 use Rattle.task.specs.declared.held.Task.{Task}
@@ -35,7 +35,7 @@ system o p tasks R = system_of o.goes o.most p R (tables_of tasks)
 -- what has been waited since the last release is no more than since any
 abbrev pub Since : Option ℕ → ℕ → List Done → Type 0
 Since None t past = past ≡ []
-Since (Some w) t past = All (λ d. d.released + w ≤ t) past
+Since (Some w) t past = AllByRecursion (λ d. d.released + w ≤ t) past
 
 -- the job that a run has open in a slot is the one that the tables and the book have
 pub record SameJob (p : Plan) (s told due t r : ℕ) (j : JobState) (job : Option Job) (waited : Option ℕ) (entries : List Entry) : Type 0 where
@@ -98,6 +98,6 @@ pub record Sound (o : Meaning) (t : Tables) (b : ℕ → Line) : Type 0 where
   pub exact : Exact t
   pub as_told : AsTold t b
   pub due : (s : ℕ) (τ : Task) → s < 16 → task_in t s ≡ Some τ → (b s).deadline ≡ deadline τ
-  pub ended : (s : ℕ) → s < 16 → All EndedInTime (b s).ended
+  pub ended : (s : ℕ) → s < 16 → AllByRecursion EndedInTime (b s).ended
   pub epoch : Epoch o (parts t) b
   pub ticked : Ticked o t

@@ -1,6 +1,6 @@
 -- While what holds between calls holds, every job is in time.
 use Rattle.std.proofs.Common.{◌≡◌, ℕ, ◌<◌, true, List, Some, None, Option, sym, refl, ap, subst, arith}
-use Rattle.std.specs.List.{AllByRecursion as All}
+use Rattle.std.specs.List.{AllByRecursion}
 use Rattle.order.specs.Laws.{Orderly}
 use Rattle.task.specs.declared.held.Task.{Task}
 use Rattle.task.specs.Held.{LawfulTask}
@@ -68,12 +68,12 @@ is_there p s d e = ap there e
 module _ (o : Meaning) (laws : LawfulOrder o) (t : Tables) (b : ℕ → Line) (sound : Sound o t b) where
   open_timely : (R : List ℕ) (s time : ℕ) (x : Slot JobState) (job : Option Job) (w : Option ℕ) (entries : List Entry) → s < 16
       → Solves o.most t.plan R → (Held (system o t.plan t.tasks R).plan s → TimelySlot (bound R s) time x)
-      → SameSlot t.plan s (bound R s) (b s).deadline time x job w entries → All OpenInTime entries
-  open_timely R s time (idle past) job w entries l solves on m = subst (All OpenInTime) (sym m.1) tt
+      → SameSlot t.plan s (bound R s) (b s).deadline time x job w entries → AllByRecursion OpenInTime entries
+  open_timely R s time (idle past) job w entries l solves on m = subst (AllByRecursion OpenInTime) (sym m.1) tt
   open_timely R s time (busy r spent j past) job w entries l solves on m =
       let k = m.0 in
       let a = asking_at t.tasks t.plan sound.exact s k.demand l k.asks in
-      subst (All OpenInTime) (sym k.entered) (
+      subst (AllByRecursion OpenInTime) (sym k.entered) (
         record {
           below_bound = omega (arith, (on (l, is_there t.plan s k.demand k.asks)).0, k.age);
           in_deadline = omega (arith, solves.kept s k.demand l k.asks, a.asks.deadline, sound.due s a.task l a.there_is);
@@ -84,8 +84,8 @@ module _ (o : Meaning) (laws : LawfulOrder o) (t : Tables) (b : ℕ → Line) (s
   pub in_time : InTime b
   in_time = record { open_jobs = go t.bounds sound.epoch; ended_jobs = sound.ended }
     where
-      go : (bs : Option (List ℕ)) → EpochBy o (parts t) b bs → (s : ℕ) → s < 16 → All OpenInTime (b s).unended
-      go None rest s l = subst (All OpenInTime) (sym (rest s l).no_entry) tt
+      go : (bs : Option (List ℕ)) → EpochBy o (parts t) b bs → (s : ℕ) → s < 16 → AllByRecursion OpenInTime (b s).unended
+      go None rest s l = subst (AllByRecursion OpenInTime) (sym (rest s l).no_entry) tt
       go (Some R) running s l =
           open_timely R s running.state.now (running.state.slot s) (job_at t.jobs s) (waited_at t.waited s) (b s).unended l running.solves
           (run_timely t.tasks t.plan sound.exact o R laws running.solves running.state running.run s)

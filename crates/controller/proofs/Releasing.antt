@@ -1,7 +1,7 @@
 -- Tasks are admitted, a job is released, a tick is opened: what holds between calls goes on to hold.
 use Rattle.std.proofs.Common.{◌≡◌, ℕ, ◌+◌, ◌<◌, ◌≤◌, Bool, true, false, cond, eqb, ◌≢◌, List, [], ◌∷◌, set, Some, None, Ok, Option, sym, refl, ap, ◌∙◌, subst, inl, inr, arith}
 use Rattle.std.proofs.lemmas.Bool.{cases_eq}
-use Rattle.std.specs.List.{AllByRecursion as All}
+use Rattle.std.specs.List.{AllByRecursion}
 use Rattle.task.specs.declared.held.Task.{Task}
 use Rattle.bounds.specs.declared.plan.Demand.{Demand}
 use Rattle.bounds.specs.declared.plan.Plan.{Plan}
@@ -97,13 +97,13 @@ demand_there tasks p τ s e h = go (held p s) refl (subst (λ (x : Option Task).
     go None f h = absurd h
     go (Some d) f h = record { demand = d; asks = f; exact = h }
 
-pub all_weaker : {X : Type 0} (P Q : X → Type 0) → ((x : X) → P x → Q x) → (xs : List X) → All P xs → All Q xs
+pub all_weaker : {X : Type 0} (P Q : X → Type 0) → ((x : X) → P x → Q x) → (xs : List X) → AllByRecursion P xs → AllByRecursion Q xs
 all_weaker P Q f [] h = tt
 all_weaker P Q f (x ∷ xs) h = (f x h.0, all_weaker P Q f xs h.1)
 
 -- what has been waited is a period at least
-spaced : (T t : ℕ) (w : Option ℕ) (past : List Done) → Since w t past → ((n : ℕ) → w ≡ Some n → T ≤ n) → All (λ d. d.released + T ≤ t) past
-spaced T t None past since long = subst (All (λ d. d.released + T ≤ t)) (sym since) tt
+spaced : (T t : ℕ) (w : Option ℕ) (past : List Done) → Since w t past → ((n : ℕ) → w ≡ Some n → T ≤ n) → AllByRecursion (λ d. d.released + T ≤ t) past
+spaced T t None past since long = subst (AllByRecursion (λ d. d.released + T ≤ t)) (sym since) tt
 spaced T t (Some n) past since long =
     all_weaker (λ d. d.released + n ≤ t) (λ d. d.released + T ≤ t) (λ d h. omega (arith, long n refl)) past since
 
@@ -209,7 +209,7 @@ module _ (o : Meaning) (t u : Tables) (b : ℕ → Line) (sound : Sound o t b) (
         exact = kept_exact o t u b sound rel.same;
         as_told = λ k m. subst (λ (x : ToldTask). HoldsTold x (table_in u k)) (sym (same_task k (eqb k s))) (kept_told o t u b sound rel.same k m);
         due = λ k τ m e. same_deadline k (eqb k s) ∙ kept_due o t u b sound rel.same k τ m e;
-        ended = λ k m. subst (All EndedInTime) (sym (same_ended k (eqb k s))) (sound.ended k m);
+        ended = λ k m. subst (AllByRecursion EndedInTime) (sym (same_ended k (eqb k s))) (sound.ended k m);
         epoch = subst (λ (x : Parts). Epoch o x b')
             (sym (parts_are u released_parts rel.same.same_plan rel.same.same_held rel.opened rel.just_now (rel.same_bounds ∙ rel.admitted))) continues;
         ticked = λ spots e. absurd (some_not_none e (rel.same_tick ∙ no_tick));

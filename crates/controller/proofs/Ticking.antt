@@ -2,7 +2,7 @@
 use Rattle.std.proofs.Common.{◌≡◌, ℕ, zero, suc, ◌+◌, ◌<◌, Bool, true, false, cond, eqb, ◌≢◌, ◌⊎◌, List, [], ◌∷◌, length, ℤ, pos, ◌-ℤ◌, Some, Option, sym, refl, ap, ◌∙◌, subst, inl, inr, arith}
 use Rattle.std.proofs.lemmas.Int.{ints}
 use Rattle.std.proofs.lemmas.Bool.{eqb-true}
-use Rattle.std.specs.List.{AllByRecursion as All}
+use Rattle.std.specs.List.{AllByRecursion}
 use Rattle.order.specs.declared.Party.{Party}
 use Rattle.table.specs.declared.records.Arc.{Arc}
 use Rattle.table.specs.declared.records.Node.{Node}
@@ -201,7 +201,7 @@ module _ (o : Meaning) (laws : LawfulOrder o) (t : Tables) (b : ℕ → Line) (s
           }
 
       full : (k w : ℕ) → k < 16 → ReadyIn t.tasks t.jobs k w → places_of k w tick_places ≡ 0
-          → (length tick_places ≡ t.plan.cores) × All (λ c. (c.slot ≡ k) ⊎ RunAhead y σ c.slot k) tick_places
+          → (length tick_places ≡ t.plan.cores) × AllByRecursion (λ c. (c.slot ≡ k) ⊎ RunAhead y σ c.slot k) tick_places
       full k w l r none =
           let w' = waits k w r none in (
             all_places spots outcomes (length outcomes) (λ c m.

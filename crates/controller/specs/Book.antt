@@ -1,6 +1,6 @@
 -- A book of the jobs, kept from the calls and their answers alone. Assumes nothing.
 use Rattle.std.specs.Prelude.{◌≡◌, ℕ, suc, ◌/◌, ◌%◌, ◌^◌, ◌<◌, ◌≤◌, Bool, cond, List, [], ◌∷◌, ◌++◌, map, Some, None, Ok, Err, Option, Result, ◌==◌}
-use Rattle.std.specs.List.{AllByRecursion as All}
+use Rattle.std.specs.List.{AllByRecursion}
 use Rattle.table.specs.declared.records.Table.{Table}
 use Rattle.table.specs.Fields.{four_told}
 use Rattle.task.specs.Described.{Told}
@@ -103,5 +103,5 @@ pub record OpenInTime (j : Entry) : Type 0 where
   pub in_deadline : j.told ≤ j.due
 
 pub record InTime (b : ℕ → Line) : Type 0 where
-  pub open_jobs : (s : ℕ) → s < 16 → All OpenInTime (b s).unended
-  pub ended_jobs : (s : ℕ) → s < 16 → All EndedInTime (b s).ended
+  pub open_jobs : (s : ℕ) → s < 16 → AllByRecursion OpenInTime (b s).unended
+  pub ended_jobs : (s : ℕ) → s < 16 → AllByRecursion EndedInTime (b s).ended

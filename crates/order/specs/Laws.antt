@@ -1,6 +1,6 @@
 -- What an order must show, over whom it lets ahead (`goes`) and how many at most (`most`). Assumes nothing.
 use Rattle.std.specs.Prelude.{◌≡◌, ℕ, ◌<◌, ◌≤◌, Bool, true, ◌⊎◌, List, [], ◌∷◌, length, ℤ, pos, ◌+ℤ◌, neg_ℤ, ◌≤ℤ◌, ◌<ℤ◌, Some, None, Option}
-use Rattle.std.specs.List.{AllByRecursion as All}
+use Rattle.std.specs.List.{AllByRecursion}
 use Rattle.order.specs.declared.Party.{Party}
 
 -- a task that a controller can hold
@@ -38,7 +38,7 @@ pub record Orderly (goes : Party → Party → ℤ → Bool) (most : Party → P
       → (d e : ℤ) → goes i k d ≡ true → goes k l e ≡ true → goes i l (d +ℤ e) ≡ true
   -- of jobs of i released at least a period apart, each later than R before one job of k, no more than the cap go ahead of it
   pub capped : (i k : Party) → Lawful i → Lawful k → Different i k → (R c : ℕ) → 1 ≤ R → R ≤ i.deadline → most i k R ≡ Some c
-      → (ds : List ℤ) → Spread i.period ds → All (λ d. (neg_ℤ (pos R) <ℤ d) × (goes i k d ≡ true)) ds → length ds ≤ c
+      → (ds : List ℤ) → Spread i.period ds → AllByRecursion (λ d. (neg_ℤ (pos R) <ℤ d) × (goes i k d ≡ true)) ds → length ds ≤ c
   -- the cap does not fall when the bound rises
   pub rising : (i k : Party) → Lawful i → Lawful k → Different i k → (R S : ℕ) → 1 ≤ R → R ≤ S → S ≤ i.deadline
       → AtMost (most i k R) (most i k S)

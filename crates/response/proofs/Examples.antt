@@ -2,7 +2,7 @@
 use Rattle.std.proofs.Common.{◌≡◌, ℕ, zero, suc, ◌+◌, ◌<◌, ◌≤◌, true, false, ◌&&◌, eqb, ◌⊎◌, List, [], ◌∷◌, length, Some, None, Option, refl, ap, subst, inr, arith, lit<, lit≤}
 use lib.ListN.{get_or-replicate}
 use Rattle.std.proofs.lemmas.Bool.Decides.{nat_tests}
-use Rattle.std.specs.List.{AllByRecursion as All}
+use Rattle.std.specs.List.{AllByRecursion}
 use Rattle.order.specs.Orders.{smaller_slot, slot_cap}
 use Rattle.bounds.specs.declared.plan.Demand.{Demand}
 use Rattle.bounds.specs.Equation.{sum_to, held, Solves}
@@ -85,7 +85,7 @@ first_tick =
       work_conserving = λ k w h ready waits.
           held_cases
           (λ i. ReadyAt (flash_system.jobs i) w (all_open.slot i) → places_of i w both ≡ 0
-          → (length both ≡ flashes.cores) × All (λ c. (c.slot ≡ i) ⊎ GoesAhead flash_system all_open c.slot i) both)
+          → (length both ≡ flashes.cores) × AllByRecursion (λ c. (c.slot ≡ i) ⊎ GoesAhead flash_system all_open c.slot i) both)
           (λ r none. absurd (not_waiting 0 w both (lit≤ tt) r.is_node none))
           (λ r none. absurd (not_waiting 1 w both (lit≤ tt) r.is_node none))
           (λ r none. (refl, (inr refl, (inr refl, tt)))) k h.0 h.1 ready waits;

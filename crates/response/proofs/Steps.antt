@@ -1,7 +1,7 @@
 -- The ticks of a plan's system, from what is known of each slot: how a run goes on.
 use Rattle.std.proofs.Common.{◌≡◌, ℕ, suc, ◌<◌, ◌≤◌, Bool, true, false, cond, eqb, ◌≢◌, ◌⊎◌, List, [], ◌∷◌, ◌++◌, length, replicate, sym, refl, ap, subst, inl, inr, arith}
 use Rattle.std.proofs.lemmas.Bool.{cases_lt, eqb-true}
-use Rattle.std.specs.List.{AllByRecursion as All}
+use Rattle.std.specs.List.{AllByRecursion}
 use Rattle.table.specs.declared.records.Arc.{Arc}
 use Rattle.table.specs.declared.records.Node.{Node}
 use Rattle.table.specs.declared.records.Table.{Table}
@@ -27,10 +27,10 @@ module _ (ns : List Node) (arcs : List Arc) where
   SlotAllows ts (idle past) = ts ≡ []
   SlotAllows ts (busy r spent j past) = Allowed ns arcs j.states (outcome_in ts)
 
-  slot_may_have : (ts : List (Turn Outcome)) → ((v : ℕ) → turns_of v ts ≤ 1) → All (λ t. t.outcome ≢ did_not_run) ts
-      → (x : Slot JobState) → SlotAllows ts x → All (λ t. MayHaveAt (graph_jobs ns arcs) t x) ts
+  slot_may_have : (ts : List (Turn Outcome)) → ((v : ℕ) → turns_of v ts ≤ 1) → AllByRecursion (λ t. t.outcome ≢ did_not_run) ts
+      → (x : Slot JobState) → SlotAllows ts x → AllByRecursion (λ t. MayHaveAt (graph_jobs ns arcs) t x) ts
   slot_may_have ts once ran (idle past) none =
-      let P : List (Turn Outcome) → Type 0 = λ us. All (λ t. MayHaveAt (graph_jobs ns arcs) t (idle past)) us in
+      let P : List (Turn Outcome) → Type 0 = λ us. AllByRecursion (λ t. MayHaveAt (graph_jobs ns arcs) t (idle past)) us in
       subst P (sym none) tt
   slot_may_have ts once ran (busy r spent j past) ok = may_have_turns ns arcs j ts once ran ok
 
@@ -57,19 +57,19 @@ module _ (ns : List Node) (arcs : List Arc) where
 -- ---- all slots
 
 module _ (goes : Goes) (most : Caps) (p : Plan) (R : List ℕ) (tasks : ℕ → Table) (s : State (system_of goes most p R tasks)) (cs : List (Place Outcome)) where
-  all_both : (P Q : Place Outcome → Type 0) (ds : List (Place Outcome)) → All P ds → All Q ds → All (λ c. P c × Q c) ds
+  all_both : (P Q : Place Outcome → Type 0) (ds : List (Place Outcome)) → AllByRecursion P ds → AllByRecursion Q ds → AllByRecursion (λ c. P c × Q c) ds
   all_both P Q [] a b = tt
   all_both P Q (d ∷ ds) a b = ((a.0, b.0), all_both P Q ds a.1 b.1)
 
-  turns_ran : (k : ℕ) (ds : List (Place Outcome)) → All (λ c. c.turn.outcome ≢ did_not_run) ds → All (λ t. t.outcome ≢ did_not_run) (turns_for k ds)
+  turns_ran : (k : ℕ) (ds : List (Place Outcome)) → AllByRecursion (λ c. c.turn.outcome ≢ did_not_run) ds → AllByRecursion (λ t. t.outcome ≢ did_not_run) (turns_for k ds)
   turns_ran k [] ran = tt
   turns_ran k (d ∷ ds) ran = go (eqb k d.slot) (turns_ran k ds ran.1)
     where
-      go : (b : Bool) → All (λ t. t.outcome ≢ did_not_run) (turns_for k ds) → All (λ t. t.outcome ≢ did_not_run) (cond b (d.turn ∷ turns_for k ds) (turns_for k ds))
+      go : (b : Bool) → AllByRecursion (λ t. t.outcome ≢ did_not_run) (turns_for k ds) → AllByRecursion (λ t. t.outcome ≢ did_not_run) (cond b (d.turn ∷ turns_for k ds) (turns_for k ds))
       go true rest = (ran.0, rest)
       go false rest = rest
 
-  no_turns_past : (k : ℕ) → 16 ≤ k → (ds : List (Place Outcome)) → All (λ c. c.slot < 16) ds → turns_for k ds ≡ []
+  no_turns_past : (k : ℕ) → 16 ≤ k → (ds : List (Place Outcome)) → AllByRecursion (λ c. c.slot < 16) ds → turns_for k ds ≡ []
   no_turns_past k l [] slots = refl
   no_turns_past k l (d ∷ ds) slots = go (eqb k d.slot) refl (no_turns_past k l ds slots.1)
     where
@@ -80,10 +80,10 @@ module _ (goes : Goes) (most : Caps) (p : Plan) (R : List ℕ) (tasks : ℕ → 
   -- A run may have the tick: its places lie in slots, no node has two cores, there are no more places than cores, the turns of each slot are
   -- an allowed tick of its job, and no ready node waits beside a core that is idle or has a job that does not go ahead.
   pub may_tick_lem :
-      All (λ c. c.slot < 16) cs → All (λ c. c.turn.outcome ≢ did_not_run) cs → ((k v : ℕ) → places_of k v cs ≤ 1) → length cs ≤ p.cores
+      AllByRecursion (λ c. c.slot < 16) cs → AllByRecursion (λ c. c.turn.outcome ≢ did_not_run) cs → ((k v : ℕ) → places_of k v cs ≤ 1) → length cs ≤ p.cores
       → ((k : ℕ) → k < 16 → SlotAllows (nodes_of (tasks k)) (arcs_of (tasks k)) (turns_for k cs) (s.slot k))
       → ((k w : ℕ) → Held (numbers_of goes most p R) k → ReadyAt (graph_jobs (nodes_of (tasks k)) (arcs_of (tasks k))) w (s.slot k) → places_of k w cs ≡ 0
-      → (length cs ≡ p.cores) × All (λ c. (c.slot ≡ k) ⊎ GoesAhead (system_of goes most p R tasks) s c.slot k) cs)
+      → (length cs ≡ p.cores) × AllByRecursion (λ c. (c.slot ≡ k) ⊎ GoesAhead (system_of goes most p R tasks) s c.slot k) cs)
       → MayTick (system_of goes most p R tasks) s cs
   may_tick_lem slots ran once few allows conserving =
       record {
@@ -95,10 +95,10 @@ module _ (goes : Goes) (most : Caps) (p : Plan) (R : List ℕ) (tasks : ℕ → 
         work_conserving = conserving;
       }
     where
-      at_slot : (k : ℕ) → (k < 16) ⊎ (16 ≤ k) → All (λ t. MayHaveAt (graph_jobs (nodes_of (tasks k)) (arcs_of (tasks k))) t (s.slot k)) (turns_for k cs)
+      at_slot : (k : ℕ) → (k < 16) ⊎ (16 ≤ k) → AllByRecursion (λ t. MayHaveAt (graph_jobs (nodes_of (tasks k)) (arcs_of (tasks k))) t (s.slot k)) (turns_for k cs)
       at_slot k (inl l) =
           slot_may_have (nodes_of (tasks k)) (arcs_of (tasks k)) (turns_for k cs) (λ v. omega (arith, turns_are_places k v cs, once k v)) (turns_ran k cs ran) (s.slot k)
           (allows k l)
       at_slot k (inr l) =
-          let P : List (Turn Outcome) → Type 0 = All (λ t. MayHaveAt (graph_jobs (nodes_of (tasks k)) (arcs_of (tasks k))) t (s.slot k)) in
+          let P : List (Turn Outcome) → Type 0 = AllByRecursion (λ t. MayHaveAt (graph_jobs (nodes_of (tasks k)) (arcs_of (tasks k))) t (s.slot k)) in
           subst P (sym (no_turns_past k l cs slots)) tt

@@ -3,7 +3,7 @@ use Rattle.std.proofs.Common.{◌≡◌, ℕ, ◌+◌, ◌<◌, ◌≤◌, Bool,
 use mathlib.Core.Path.{fun_ext}
 use Rattle.std.proofs.lemmas.Bool.Decides.{nat_tests}
 use Rattle.std.proofs.lemmas.Bool.{eqb-true}
-use Rattle.std.specs.List.{AllByRecursion as All}
+use Rattle.std.specs.List.{AllByRecursion}
 use Rattle.table.specs.declared.records.Arc.{Arc}
 use Rattle.table.specs.declared.records.Node.{Node}
 use Rattle.workload.specs.Measures.{sum_below}
@@ -44,7 +44,7 @@ ran_turn (t ∷ ts) v ran = go (eqb v t.node) ran (ran_turn ts v)
     go false ran rest = omega (arith, rest ran)
 
 -- a node that ran has its outcome by a turn of the list
-pub turn_of_outcome : (P : Turn Outcome → Type 0) (ts : List (Turn Outcome)) → All P ts → (v : ℕ) → outcome_in ts v ≢ idle
+pub turn_of_outcome : (P : Turn Outcome → Type 0) (ts : List (Turn Outcome)) → AllByRecursion P ts → (v : ℕ) → outcome_in ts v ≢ idle
     → (t : Turn Outcome) × P t × (outcome_in (t ∷ []) v ≡ outcome_in ts v)
 turn_of_outcome P [] all v ran = absurd (ran refl)
 turn_of_outcome P (t ∷ ts) all v ran = go (eqb v t.node) refl ran (turn_of_outcome P ts all.1 v)
@@ -59,16 +59,16 @@ same_number : (v : ℕ) → eqb v v ≡ true
 same_number v = grind (arith, nat_tests)
 
 -- each turn of the list counts
-pub each_counts : (ts : List (Turn Outcome)) → All (λ t. 1 ≤ turns_of t.node ts) ts
+pub each_counts : (ts : List (Turn Outcome)) → AllByRecursion (λ t. 1 ≤ turns_of t.node ts) ts
 each_counts [] = tt
 each_counts (t ∷ ts) = (omega (arith, ap bit (same_number t.node)), more ts (each_counts ts))
   where
-    more : (us : List (Turn Outcome)) → All (λ u. 1 ≤ turns_of u.node ts) us → All (λ u. 1 ≤ turns_of u.node (t ∷ ts)) us
+    more : (us : List (Turn Outcome)) → AllByRecursion (λ u. 1 ≤ turns_of u.node ts) us → AllByRecursion (λ u. 1 ≤ turns_of u.node (t ∷ ts)) us
     more [] all = tt
     more (u ∷ us) all = (omega (arith, all.0), more us all.1)
 
 -- where no node has two turns, each turn's outcome is its node's
-pub outcome_of_turn : (ts : List (Turn Outcome)) → ((v : ℕ) → turns_of v ts ≤ 1) → All (λ t. outcome_in ts t.node ≡ t.outcome) ts
+pub outcome_of_turn : (ts : List (Turn Outcome)) → ((v : ℕ) → turns_of v ts ≤ 1) → AllByRecursion (λ t. outcome_in ts t.node ≡ t.outcome) ts
 outcome_of_turn [] once = tt
 outcome_of_turn (t ∷ ts) once = (
   ap (λ (b : Bool). cond b t.outcome (outcome_in ts t.node)) (same_number t.node),
@@ -79,8 +79,8 @@ outcome_of_turn (t ∷ ts) once = (
     other u counts true e = absurd (omega (arith, once u, ap bit e))
     other u counts false e = refl
 
-    more : (us : List (Turn Outcome)) → All (λ u. 1 ≤ turns_of u.node ts) us → All (λ u. outcome_in ts u.node ≡ u.outcome) us
-        → All (λ u. outcome_in (t ∷ ts) u.node ≡ u.outcome) us
+    more : (us : List (Turn Outcome)) → AllByRecursion (λ u. 1 ≤ turns_of u.node ts) us → AllByRecursion (λ u. outcome_in ts u.node ≡ u.outcome) us
+        → AllByRecursion (λ u. outcome_in (t ∷ ts) u.node ≡ u.outcome) us
     more [] counts all = tt
     more (u ∷ us) counts all = (
       ap (λ (b : Bool). cond b t.outcome (outcome_in ts u.node)) (other u.node counts.0 (eqb u.node t.node) refl) ∙ all.0,
@@ -93,7 +93,7 @@ ran_one goes_on ran = refl
 ran_one (ends_with b) ran = refl
 
 -- a node ran as many ticks as it has turns
-pub ran_turns : (ts : List (Turn Outcome)) → All (λ t. t.outcome ≢ idle) ts → (v : ℕ) → turns_of v ts ≤ 1 → ran_now (outcome_in ts v) ≡ turns_of v ts
+pub ran_turns : (ts : List (Turn Outcome)) → AllByRecursion (λ t. t.outcome ≢ idle) ts → (v : ℕ) → turns_of v ts ≤ 1 → ran_now (outcome_in ts v) ≡ turns_of v ts
 ran_turns [] all v once = refl
 ran_turns (t ∷ ts) all v once = go (eqb v t.node) once (ran_turns ts all.1 v)
   where
@@ -103,7 +103,7 @@ ran_turns (t ∷ ts) all v once = go (eqb v t.node) once (ran_turns ts all.1 v)
     go false once rest = omega (arith, rest (omega arith))
 
 -- all nodes together ran as many ticks as there are turns
-pub all_ran : (n : ℕ) (ran : ℕ → ℕ) (ts : List (Turn Outcome)) → All (λ t. t.node < n) ts → sum_below n (λ v. ran v + turns_of v ts) ≡ sum_below n ran + length ts
+pub all_ran : (n : ℕ) (ran : ℕ → ℕ) (ts : List (Turn Outcome)) → AllByRecursion (λ t. t.node < n) ts → sum_below n (λ v. ran v + turns_of v ts) ≡ sum_below n ran + length ts
 all_ran n ran [] all = omega (arith, sum_below_same (λ v. ran v + 0) ran n (λ v l. omega arith))
 all_ran n ran (t ∷ ts) all =
     omega (
@@ -137,7 +137,7 @@ module _ (ns : List Node) (arcs : List Arc) (job : List NodeState) where
           go (inr e) = e
 
   -- a tick is allowed where each of its turns alone is
-  pub allowed_by_turns : (ts : List (Turn Outcome)) → All (λ t. Allowed ns arcs job (outcome_in (t ∷ []))) ts → Allowed ns arcs job (outcome_in ts)
+  pub allowed_by_turns : (ts : List (Turn Outcome)) → AllByRecursion (λ t. Allowed ns arcs job (outcome_in (t ∷ []))) ts → Allowed ns arcs job (outcome_in ts)
   allowed_by_turns ts all =
       record {
         only_ready = λ v ran.
@@ -159,8 +159,8 @@ module _ (ns : List Node) (arcs : List Arc) (job : List NodeState) where
 
 module _ (ns : List Node) (arcs : List Arc) (j : JobState) where
   -- the turns of a tick that is allowed are turns that the job may have
-  pub may_have_turns : (ts : List (Turn Outcome)) → ((v : ℕ) → turns_of v ts ≤ 1) → All (λ t. t.outcome ≢ idle) ts
-      → Allowed ns arcs j.states (outcome_in ts) → All (MayHave (graph_jobs ns arcs) j) ts
+  pub may_have_turns : (ts : List (Turn Outcome)) → ((v : ℕ) → turns_of v ts ≤ 1) → AllByRecursion (λ t. t.outcome ≢ idle) ts
+      → Allowed ns arcs j.states (outcome_in ts) → AllByRecursion (MayHave (graph_jobs ns arcs) j) ts
   may_have_turns ts once ran ok = each ts ran (outcome_of_turn ts once)
     where
       part : (t : Turn Outcome) → outcome_in ts t.node ≡ t.outcome → (v : ℕ) (b : Bool) → eqb v t.node ≡ b
@@ -168,8 +168,8 @@ module _ (ns : List Node) (arcs : List Arc) (j : JobState) where
       part t e v true same = inr (sym e ∙ ap (outcome_in ts) (sym (eqb-true v t.node same)))
       part t e v false same = inl refl
 
-      each : (us : List (Turn Outcome)) → All (λ t. t.outcome ≢ idle) us → All (λ t. outcome_in ts t.node ≡ t.outcome) us
-          → All (MayHave (graph_jobs ns arcs) j) us
+      each : (us : List (Turn Outcome)) → AllByRecursion (λ t. t.outcome ≢ idle) us → AllByRecursion (λ t. outcome_in ts t.node ≡ t.outcome) us
+          → AllByRecursion (MayHave (graph_jobs ns arcs) j) us
       each [] ran same = tt
       each (t ∷ us) ran same = (
         (

@@ -1,13 +1,13 @@
 -- One tick of one open job: each ready node has a chain that keeps up with the time.
 use Rattle.std.proofs.Common.{◌≡◌, ℕ, suc, ◌+◌, ◌-◌, ◌*◌, ◌<◌, ◌≤◌, Bool, true, false, eqb, ◌⊎◌, List, [], ◌∷◌, length, sym, refl, subst, inl, inr, mul-le-mul_left, arith}
 use Rattle.std.proofs.lemmas.Bool.{cases_lt, eqb-true}
-use Rattle.std.specs.List.{AllByRecursion as All}
+use Rattle.std.specs.List.{AllByRecursion}
 use Rattle.runs.specs.Counts.{bit}
 use Rattle.runs.specs.Jobs.{Jobs, JobLaws, Turn, turns_of, MayHave, Fair}
 use Rattle.runs.proofs.Counting.{count_if_length}
 
 -- what holds of every turn's node holds of a node with a turn
-pub node_with_turn : {O : Type 0} (P : ℕ → Type 0) (ts : List (Turn O)) → All (λ t. P t.node) ts → (v : ℕ) → 1 ≤ turns_of v ts → P v
+pub node_with_turn : {O : Type 0} (P : ℕ → Type 0) (ts : List (Turn O)) → AllByRecursion (λ t. P t.node) ts → (v : ℕ) → 1 ≤ turns_of v ts → P v
 node_with_turn P [] all v h = absurd (omega arith)
 node_with_turn P (t ∷ ts) all v h = go (eqb v t.node) refl h (node_with_turn P ts all.1 v)
   where
@@ -19,7 +19,7 @@ node_with_turn P (t ∷ ts) all v h = go (eqb v t.node) refl h (node_with_turn P
 pub turn_ready : {O : Type 0} (J : Jobs O) (j : J.State) (ts : List (Turn O)) → Fair J j ts → (v : ℕ) → 1 ≤ turns_of v ts → J.Ready j v
 turn_ready {O} J j ts fair v h = node_with_turn (J.Ready j) ts (each ts fair.allowed) v h
   where
-    each : (us : List (Turn O)) → All (MayHave J j) us → All (λ t. J.Ready j t.node) us
+    each : (us : List (Turn O)) → AllByRecursion (MayHave J j) us → AllByRecursion (λ t. J.Ready j t.node) us
     each [] all = tt
     each (t ∷ us) all = (all.0.0, each us all.1)
 

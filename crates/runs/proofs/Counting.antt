@@ -2,13 +2,13 @@
 use Rattle.std.proofs.Common.{◌≡◌, ℕ, zero, suc, ◌+◌, ◌*◌, ◌<◌, ◌≤◌, Bool, true, false, eqb, List, [], ◌∷◌, length, refl, ap, inl, inr, arith}
 use Rattle.std.proofs.lemmas.Bool.Decides.{nat_tests}
 use Rattle.std.proofs.lemmas.Bool.{cases_eq}
-use Rattle.std.specs.List.{AllByRecursion as All}
+use Rattle.std.specs.List.{AllByRecursion}
 use Rattle.bounds.specs.Equation.{sum_to, apart_from}
 use Rattle.bounds.proofs.Sums.{sum_mono}
 use Rattle.runs.specs.Counts.{bit, count_if, times, sum_of}
 use Rattle.runs.specs.Window.{in_window}
 
-pub count_if_mono : {X : Type 0} (p q : X → Bool) (Q : X → Type 0) → ((x : X) → Q x → bit (p x) ≤ bit (q x)) → (xs : List X) → All Q xs → count_if p xs ≤ count_if q xs
+pub count_if_mono : {X : Type 0} (p q : X → Bool) (Q : X → Type 0) → ((x : X) → Q x → bit (p x) ≤ bit (q x)) → (xs : List X) → AllByRecursion Q xs → count_if p xs ≤ count_if q xs
 count_if_mono p q Q h [] a = omega arith
 count_if_mono p q Q h (x ∷ xs) a = omega (arith, h x a.0, count_if_mono p q Q h xs a.1)
 

@@ -2,7 +2,7 @@
 use Rattle.std.proofs.Common.{◌≡◌, ℕ, zero, suc, ◌+◌, ◌*◌, ◌<◌, ◌≤◌, Bool, true, ◌&&◌, eqb, ltb, ◌⊎◌, List, [], ◌∷◌, refl, subst, inl, inr, arith, lit<, lit≤}
 use Rattle.std.proofs.lemmas.Bool.Decides.{nat_tests}
 use Rattle.std.proofs.lemmas.Bool.{and_parts, ltb-true}
-use Rattle.std.specs.List.{AllByRecursion as All}
+use Rattle.std.specs.List.{AllByRecursion}
 use Rattle.bounds.specs.Equation.{sum_to, apart_from}
 use Rattle.bounds.proofs.Cases.{fixed}
 use Rattle.runs.specs.Counts.{bit}
@@ -72,7 +72,7 @@ first_tick =
       once = both_once;
       few = lit≤ tt;
       work_conserving = λ k w h ready missed.
-          (refl, below_two (λ i. All (λ c. (c.slot ≡ i) ⊎ GoesAhead example both_open c.slot i) both) (inl refl, (inl refl, tt)) (inr refl, (inr refl, tt)) k h.0);
+          (refl, below_two (λ i. AllByRecursion (λ c. (c.slot ≡ i) ⊎ GoesAhead example both_open c.slot i) both) (inl refl, (inl refl, tt)) (inr refl, (inr refl, tt)) k h.0);
     }
 
 alone_ticks : (s : State example) (n : ℕ) → MayHaveAt (example.jobs 1) (record { node = 0; outcome = n }) (s.slot 1) → ((w : ℕ) → ReadyAt (example.jobs 0) w (s.slot 0) → ⊥)

@@ -2,7 +2,7 @@
 use Rattle.std.proofs.Common.{◌≡◌, ℕ, suc, ◌+◌, ◌-◌, ◌*◌, ◌<◌, ◌≤◌, min, Bool, true, false, cond, ◌&&◌, ltb, List, [], ◌∷◌, length, ℤ, pos, ◌+ℤ◌, ◌-ℤ◌, neg_ℤ, ◌≤ℤ◌, ◌<ℤ◌, Some, None, Option, sym, refl, subst, inl, inr, mul-le-mul_left, arith}
 use Rattle.std.proofs.lemmas.Int.{ints}
 use Rattle.std.proofs.lemmas.Bool.{cases_lt, ltb-true}
-use Rattle.std.specs.List.{AllByRecursion as All}
+use Rattle.std.specs.List.{AllByRecursion}
 use Rattle.order.specs.Laws.{Different, SpreadBefore, Spread}
 use Rattle.bounds.specs.Equation.{sum_to, apart_from, capped, jobs_in}
 use Rattle.runs.specs.Counts.{bit, count_if, sum_of}
@@ -56,13 +56,13 @@ module _ (test : ℤ → Bool) (a R : ℕ) where
   abbrev ahead : ℕ → Bool
   ahead r = test (pos r -ℤ pos a)
 
-  chosen_ahead : (js : List Job) → All (λ d. (neg_ℤ (pos R) <ℤ d) × (test d ≡ true)) (chosen (reaches ahead a R) a js)
+  chosen_ahead : (js : List Job) → AllByRecursion (λ d. (neg_ℤ (pos R) <ℤ d) × (test d ≡ true)) (chosen (reaches ahead a R) a js)
   chosen_ahead [] = tt
   chosen_ahead (j ∷ js) = go (ltb a (j.released + R)) (test (pos j.released -ℤ pos a)) refl refl (chosen_ahead js)
     where
       go : (l t : Bool) → ltb a (j.released + R) ≡ l → test (pos j.released -ℤ pos a) ≡ t →
-          All (λ d. (neg_ℤ (pos R) <ℤ d) × (test d ≡ true)) (chosen (reaches ahead a R) a js) →
-          All (λ d. (neg_ℤ (pos R) <ℤ d) × (test d ≡ true)) (cond (l && t) ((pos j.released -ℤ pos a) ∷ chosen (reaches ahead a R) a js) (chosen (reaches ahead a R) a js))
+          AllByRecursion (λ d. (neg_ℤ (pos R) <ℤ d) × (test d ≡ true)) (chosen (reaches ahead a R) a js) →
+          AllByRecursion (λ d. (neg_ℤ (pos R) <ℤ d) × (test d ≡ true)) (cond (l && t) ((pos j.released -ℤ pos a) ∷ chosen (reaches ahead a R) a js) (chosen (reaches ahead a R) a js))
       go true true e f h = ((difference_late a j.released R (ltb-true a (j.released + R) e), f), h)
       go true false e f h = h
       go false true e f h = h
@@ -83,7 +83,7 @@ interference p logs k r = sum_to p.slots (apart_from k (λ i. ahead_in p k r i (
 
 -- of the jobs of a slot that holds a task
 abbrev pub LogOk : Plan → ℕ → List Job → Type 0
-LogOk p i jobs = Apart (p.party i).period jobs × All (Fits p.cores (p.work i) (p.bound i)) jobs
+LogOk p i jobs = Apart (p.party i).period jobs × AllByRecursion (Fits p.cores (p.work i) (p.bound i)) jobs
 
 -- of the jobs of any slot: where it holds no task there are none
 abbrev pub LogFine : Plan → ℕ → List Job → Type 0

@@ -3,7 +3,7 @@ use Rattle.std.proofs.Common.{◌≡◌, ℕ, suc, ◌+◌, ◌-◌, ◌<◌, �
 use mathlib.Core.Path.{fun_ext}
 use Rattle.std.proofs.lemmas.Bool.Decides.{nat_tests}
 use Rattle.std.proofs.lemmas.Bool.{cases_lt, eqb-true}
-use Rattle.std.specs.List.{AllByRecursion as All}
+use Rattle.std.specs.List.{AllByRecursion}
 use Rattle.bounds.specs.Equation.{sum_to, apart_from}
 use Rattle.runs.specs.Window.{Job, Fits, ApartBefore, Apart}
 use Rattle.runs.specs.Jobs.{Jobs, Turn, Fair}
@@ -26,15 +26,15 @@ record OpenOk (y : System) (k t r : ℕ) (sp : List ℕ) (j : (y.jobs k).State) 
   counted : length sp ≡ (y.jobs k).own j
   young : t < r + y.plan.bound k
   born : r ≤ t
-  earlier : All (λ u. u < t) sp
+  earlier : AllByRecursion (λ u. u < t) sp
   spread : ApartBefore (y.plan.party k).period r (logged past)
   fits : Fits y.plan.cores (y.plan.work k) (y.plan.bound k) (record { released = r; spent = sp })
-  past_fits : All (Fits y.plan.cores (y.plan.work k) (y.plan.bound k)) (logged past)
+  past_fits : AllByRecursion (Fits y.plan.cores (y.plan.work k) (y.plan.bound k)) (logged past)
   timely : OnTime (y.plan.bound k) past
 
 record IdleOk (y : System) (k : ℕ) (past : List Done) : Type 0 where
   spread : Apart (y.plan.party k).period (logged past)
-  past_fits : All (Fits y.plan.cores (y.plan.work k) (y.plan.bound k)) (logged past)
+  past_fits : AllByRecursion (Fits y.plan.cores (y.plan.work k) (y.plan.bound k)) (logged past)
   timely : OnTime (y.plan.bound k) past
 
 abbrev SlotOk : (y : System) (k t : ℕ) → Slot (y.jobs k).State → Type 0

@@ -3,7 +3,7 @@ use Rattle.std.proofs.Common.{◌≡◌, ℕ, zero, suc, ◌+◌, ◌*◌, ◌<�
 use lib.ListN.{length-replicate}
 use Rattle.std.proofs.lemmas.Bool.Decides.{nat_tests}
 use Rattle.std.proofs.lemmas.Bool.{cases_eq}
-use Rattle.std.specs.List.{AllByRecursion as All}
+use Rattle.std.specs.List.{AllByRecursion}
 use Rattle.runs.specs.Counts.{bit, count_if, times}
 use Rattle.runs.specs.Window.{Job, Fits, ApartBefore, Apart, in_window, used_ahead}
 use Rattle.runs.specs.Run.{Done}
@@ -13,11 +13,11 @@ abbrev pub logged : List Done → List Job
 logged [] = []
 logged (d ∷ past) = record { released = d.released; spent = d.spent } ∷ logged past
 
-pub all_replicate : (P : ℕ → Type 0) (c t : ℕ) (xs : List ℕ) → P t → All P xs → All P (replicate c t ++ xs)
+pub all_replicate : (P : ℕ → Type 0) (c t : ℕ) (xs : List ℕ) → P t → AllByRecursion P xs → AllByRecursion P (replicate c t ++ xs)
 all_replicate P zero t xs h a = a
 all_replicate P (suc c) t xs h a = (h, all_replicate P c t xs h a)
 
-pub all_weaker : (P Q : ℕ → Type 0) → ((t : ℕ) → P t → Q t) → (xs : List ℕ) → All P xs → All Q xs
+pub all_weaker : (P Q : ℕ → Type 0) → ((t : ℕ) → P t → Q t) → (xs : List ℕ) → AllByRecursion P xs → AllByRecursion Q xs
 all_weaker P Q h [] a = tt
 all_weaker P Q h (x ∷ xs) a = (h x a.0, all_weaker P Q h xs a.1)
 
@@ -26,7 +26,7 @@ count_if_replicate p zero t xs = omega arith
 count_if_replicate p (suc c) t xs = omega (arith, count_if_replicate p c t xs)
 
 -- what stands before t does not hold t
-times_later : (t : ℕ) (xs : List ℕ) → All (λ x. x < t) xs → times t xs ≡ 0
+times_later : (t : ℕ) (xs : List ℕ) → AllByRecursion (λ x. x < t) xs → times t xs ≡ 0
 times_later t [] a = refl
 times_later t (x ∷ xs) a = omega (arith, differs x a.0, times_later t xs a.1)
   where
@@ -39,7 +39,7 @@ bit_same t = grind (arith, nat_tests)
 bit_other : (t u : ℕ) → (u ≡ t → ⊥) → bit (eqb u t) ≡ 0
 bit_other t u h = grind (arith, nat_tests)
 
-pub narrow_more : (m c t : ℕ) (xs : List ℕ) → c ≤ m → All (λ x. x < t) xs → ((u : ℕ) → times u xs ≤ m) → (u : ℕ) → times u (replicate c t ++ xs) ≤ m
+pub narrow_more : (m c t : ℕ) (xs : List ℕ) → c ≤ m → AllByRecursion (λ x. x < t) xs → ((u : ℕ) → times u xs ≤ m) → (u : ℕ) → times u (replicate c t ++ xs) ≤ m
 narrow_more m c t xs h a narrow u =
     elim (cases_eq u t) [ inl e ↦ subst (λ (v : ℕ). times v (replicate c t ++ xs) ≤ m) (sym e) same | inr ne ↦ other ne ]
   where
@@ -52,7 +52,7 @@ narrow_more m c t xs h a narrow u =
 pub length_more : (c t : ℕ) (xs : List ℕ) → length (replicate c t ++ xs) ≡ c + length xs
 length_more c t xs = omega (arith, length-append (replicate c t) xs, length-replicate c t)
 
-pub fits_more : (m W R c t r : ℕ) (sp : List ℕ) → c ≤ m → c + length sp ≤ W → r ≤ t → t < r + R → All (λ x. x < t) sp →
+pub fits_more : (m W R c t r : ℕ) (sp : List ℕ) → c ≤ m → c + length sp ≤ W → r ≤ t → t < r + R → AllByRecursion (λ x. x < t) sp →
     Fits m W R (record { released = r; spent = sp }) → Fits m W R (record { released = r; spent = replicate c t ++ sp })
 fits_more m W R c t r sp few short born young earlier fit =
     record {
@@ -87,6 +87,6 @@ module _ (a n : ℕ) (ahead : ℕ → Bool) (c t r : ℕ) (sp : List ℕ) where
 -- ---- a release
 
 -- every earlier release is at least T before t
-pub before_now : (T t : ℕ) (past : List Done) → All (λ d. d.released + T ≤ t) past → Apart T (logged past) → ApartBefore T t (logged past)
+pub before_now : (T t : ℕ) (past : List Done) → AllByRecursion (λ d. d.released + T ≤ t) past → Apart T (logged past) → ApartBefore T t (logged past)
 before_now T t [] free sp = tt
 before_now T t (d ∷ past) free sp = (free.0, sp)

@@ -2,7 +2,7 @@
 use Rattle.std.proofs.Common.{◌≡◌, ℕ, zero, suc, ◌+◌, ◌<◌, ◌≤◌, Bool, true, false, cond, ◌&&◌, eqb, ◌⊎◌, List, [], ◌∷◌, length, sym, refl, subst, inl, inr, arith}
 use Rattle.std.proofs.lemmas.Bool.Decides.{nat_tests}
 use Rattle.std.proofs.lemmas.Bool.{cases_eq, eqb-true}
-use Rattle.std.specs.List.{AllByRecursion as All}
+use Rattle.std.specs.List.{AllByRecursion}
 use Rattle.bounds.specs.Equation.{sum_to}
 use Rattle.runs.specs.Counts.{bit}
 use Rattle.runs.specs.Jobs.{Jobs, Turn, turns_of, Fair}
@@ -55,7 +55,7 @@ module _ {O : Type 0} where
       go true e = omega arith
       go false e = omega arith
 
-  all_turns : (n : ℕ) (cs : List (Place O)) → All (λ c. c.slot < n) cs → sum_to n (λ k. length (turns_for k cs)) ≡ length cs
+  all_turns : (n : ℕ) (cs : List (Place O)) → AllByRecursion (λ c. c.slot < n) cs → sum_to n (λ k. length (turns_for k cs)) ≡ length cs
   unfolding sum_to
   all_turns n [] h = sum_to_none n
   all_turns n (c ∷ cs) h = omega (arith, split n, sum_to_add n (λ k. bit (eqb k c.slot)) (λ k. length (turns_for k cs)), one_node n c.slot h.0, all_turns n cs h.1)
@@ -65,7 +65,7 @@ module _ {O : Type 0} where
       split (suc i) = omega (arith, length_turns i c cs, split i)
 
   -- a slot with turns has a place
-  place_of : (P : ℕ → Type 0) (i : ℕ) (cs : List (Place O)) → All (λ c. P c.slot) cs → 1 ≤ length (turns_for i cs) → P i
+  place_of : (P : ℕ → Type 0) (i : ℕ) (cs : List (Place O)) → AllByRecursion (λ c. P c.slot) cs → 1 ≤ length (turns_for i cs) → P i
   place_of P i [] h l = absurd (omega arith)
   place_of P i (c ∷ cs) h l =
       elim (cases_eq i c.slot) [ inl e ↦ subst P (sym e) h.0 | inr ne ↦ place_of P i cs h.1 (omega (arith, length_turns i c cs, other i c.slot ne)) ]
@@ -74,35 +74,35 @@ module _ {O : Type 0} where
       other a b n = grind (arith, nat_tests)
 
   -- what holds of every place holds of the turns of a slot
-  turns_of_places : (P : ℕ → Turn O → Type 0) (k : ℕ) (cs : List (Place O)) → All (λ c. P c.slot c.turn) cs → All (P k) (turns_for k cs)
+  turns_of_places : (P : ℕ → Turn O → Type 0) (k : ℕ) (cs : List (Place O)) → AllByRecursion (λ c. P c.slot c.turn) cs → AllByRecursion (P k) (turns_for k cs)
   turns_of_places P k [] h = tt
   turns_of_places P k (c ∷ cs) h = go (eqb k c.slot) refl (turns_of_places P k cs h.1)
     where
-      go : (b : Bool) → eqb k c.slot ≡ b → All (P k) (turns_for k cs) → All (P k) (cond b (c.turn ∷ turns_for k cs) (turns_for k cs))
+      go : (b : Bool) → eqb k c.slot ≡ b → AllByRecursion (P k) (turns_for k cs) → AllByRecursion (P k) (cond b (c.turn ∷ turns_for k cs) (turns_for k cs))
       go true e rest = (subst (λ (i : ℕ). P i c.turn) (sym (eqb-true k c.slot e)) h.0, rest)
       go false e rest = rest
 
 -- what holds of the turns of each slot holds of every place
-pub places_by_turns : {O : Type 0} (P : ℕ → Turn O → Type 0) (cs : List (Place O)) → ((k : ℕ) → All (P k) (turns_for k cs)) → All (λ c. P c.slot c.turn) cs
+pub places_by_turns : {O : Type 0} (P : ℕ → Turn O → Type 0) (cs : List (Place O)) → ((k : ℕ) → AllByRecursion (P k) (turns_for k cs)) → AllByRecursion (λ c. P c.slot c.turn) cs
 places_by_turns P [] h = tt
 places_by_turns P (c ∷ cs) h = (here (eqb c.slot c.slot) (same c.slot) (h c.slot), places_by_turns P cs (λ k. rest k (eqb k c.slot) (h k)))
   where
     same : (k : ℕ) → eqb k k ≡ true
     same k = grind (arith, nat_tests)
 
-    here : (b : Bool) → b ≡ true → All (P c.slot) (cond b (c.turn ∷ turns_for c.slot cs) (turns_for c.slot cs)) → P c.slot c.turn
+    here : (b : Bool) → b ≡ true → AllByRecursion (P c.slot) (cond b (c.turn ∷ turns_for c.slot cs) (turns_for c.slot cs)) → P c.slot c.turn
     here true e all = all.0
     here false e all = absurd (grind arith)
 
-    rest : (k : ℕ) (b : Bool) → All (P k) (cond b (c.turn ∷ turns_for k cs) (turns_for k cs)) → All (P k) (turns_for k cs)
+    rest : (k : ℕ) (b : Bool) → AllByRecursion (P k) (cond b (c.turn ∷ turns_for k cs) (turns_for k cs)) → AllByRecursion (P k) (turns_for k cs)
     rest k true all = all.1
     rest k false all = all
 
-all_first : {X : Type 0} (P Q : X → Type 0) (xs : List X) → All (λ x. P x × Q x) xs → All P xs
+all_first : {X : Type 0} (P Q : X → Type 0) (xs : List X) → AllByRecursion (λ x. P x × Q x) xs → AllByRecursion P xs
 all_first P Q [] h = tt
 all_first P Q (x ∷ xs) h = (h.0.0, all_first P Q xs h.1)
 
-all_second : {X : Type 0} (P Q : X → Type 0) (xs : List X) → All (λ x. P x × Q x) xs → All Q xs
+all_second : {X : Type 0} (P Q : X → Type 0) (xs : List X) → AllByRecursion (λ x. P x × Q x) xs → AllByRecursion Q xs
 all_second P Q [] h = tt
 all_second P Q (x ∷ xs) h = (h.0.1, all_second P Q xs h.1)
 
@@ -110,7 +110,7 @@ module _ (y : System) (s : State y) (cs : List (Place y.Outcome)) (may : MayTick
   abbrev turns : Turns y
   turns k = turns_for k cs
 
-  turns_allowed : (k : ℕ) → All (λ t. MayHaveAt (y.jobs k) t (s.slot k)) (turns_for k cs)
+  turns_allowed : (k : ℕ) → AllByRecursion (λ t. MayHaveAt (y.jobs k) t (s.slot k)) (turns_for k cs)
   turns_allowed k =
       turns_of_places (λ i t. MayHaveAt (y.jobs i) t (s.slot i)) k cs
       (all_second (λ c. c.slot < y.plan.slots) (λ c. MayHaveAt (y.jobs c.slot) c.turn (s.slot c.slot)) cs may.allowed)
@@ -118,16 +118,16 @@ module _ (y : System) (s : State y) (cs : List (Place y.Outcome)) (may : MayTick
   all_running : running y turns ≡ length cs
   all_running = all_turns y.plan.slots cs (all_first (λ c. c.slot < y.plan.slots) (λ c. MayHaveAt (y.jobs c.slot) c.turn (s.slot c.slot)) cs may.allowed)
 
-  fair_at : (k : ℕ) (x : Slot (y.jobs k).State) → All (λ t. MayHaveAt (y.jobs k) t x) (turns_for k cs) → FairAt (y.jobs k) (turns_for k cs) x
+  fair_at : (k : ℕ) (x : Slot (y.jobs k).State) → AllByRecursion (λ t. MayHaveAt (y.jobs k) t x) (turns_for k cs) → FairAt (y.jobs k) (turns_for k cs) x
   fair_at k (idle past) allowed = no_turns (turns_for k cs) allowed
     where
-      no_turns : (ts : List (Turn y.Outcome)) → All (λ t. ⊥) ts → length ts ≡ 0
+      no_turns : (ts : List (Turn y.Outcome)) → AllByRecursion (λ t. ⊥) ts → length ts ≡ 0
       no_turns [] none = refl
       no_turns (t ∷ ts) none = absurd none.0
   fair_at k (busy r sp j past) allowed = record { once = λ v. omega (arith, turns_are_places k v cs, may.once k v); allowed = allowed }
 
   conserving_at : (k : ℕ) (x : Slot (y.jobs k).State) →
-      ((w : ℕ) → ReadyAt (y.jobs k) w x → places_of k w cs ≡ 0 → (length cs ≡ y.plan.cores) × All (λ c. (c.slot ≡ k) ⊎ OpenAt (λ r. OpenAt (λ q. goes_ahead y.plan k r c.slot q ≡ true) (s.slot c.slot)) x) cs) →
+      ((w : ℕ) → ReadyAt (y.jobs k) w x → places_of k w cs ≡ 0 → (length cs ≡ y.plan.cores) × AllByRecursion (λ c. (c.slot ≡ k) ⊎ OpenAt (λ r. OpenAt (λ q. goes_ahead y.plan k r c.slot q ≡ true) (s.slot c.slot)) x) cs) →
       Conserving y s turns k x
   conserving_at k (idle past) h = tt
   conserving_at k (busy r sp j past) h = λ w ready none.

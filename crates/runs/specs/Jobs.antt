@@ -1,6 +1,6 @@
 -- What the timing argument asks of the jobs of a task, whatever their nodes compute. Assumes nothing.
 use Rattle.std.specs.Prelude.{◌≡◌, ℕ, ◌+◌, ◌-◌, ◌*◌, ◌≤◌, Bool, false, ◌⊎◌, List, length, nat_eq}
-use Rattle.std.specs.List.{AllByRecursion as All}
+use Rattle.std.specs.List.{AllByRecursion}
 use Rattle.runs.specs.Counts.{count_if}
 
 -- a node of a job has a core for one tick, with the outcome of that tick
@@ -40,7 +40,7 @@ MayHave J j t = J.Ready j t.node × J.Allows j t
 -- the turns of one tick are fair: a node has one at most, and each is one that the job may have
 pub record Fair {O : Type 0} (J : Jobs O) (j : J.State) (ts : List (Turn O)) : Type 0 where
   pub once : (v : ℕ) → turns_of v ts ≤ 1
-  pub allowed : All (MayHave J j) ts
+  pub allowed : AllByRecursion (MayHave J j) ts
 
 -- the job's state is sound, and has a tick with these turns
 abbrev pub Ticks : {O : Type 0} (J : Jobs O) → J.State → List (Turn O) → Type 0

@@ -1,6 +1,6 @@
 -- The runs of a system: releases, and ticks that leave no core idle while a node that is ready waits. Assumes nothing.
 use Rattle.std.specs.Prelude.{◌≡◌, ℕ, suc, ◌+◌, ◌<◌, ◌≤◌, Bool, true, false, cond, ◌&&◌, ◌⊎◌, List, [], ◌∷◌, ◌++◌, length, replicate, pos, ◌-ℤ◌, ◌==◌}
-use Rattle.std.specs.List.{AllByRecursion as All}
+use Rattle.std.specs.List.{AllByRecursion}
 use Rattle.runs.specs.Counts.{count_if}
 use Rattle.runs.specs.Jobs.{Jobs, Turn, MayHave}
 use Rattle.runs.specs.System.{System, Held}
@@ -29,8 +29,8 @@ start y = record { now = 0; slot = λ k. idle [] }
 
 -- every job was released at least T before t
 abbrev pub Spaced : {S : Type 0} → ℕ → ℕ → Slot S → Type 0
-Spaced T t (idle past) = All (λ d. d.released + T ≤ t) past
-Spaced T t (busy r spent j past) = (r + T ≤ t) × All (λ d. d.released + T ≤ t) past
+Spaced T t (idle past) = AllByRecursion (λ d. d.released + T ≤ t) past
+Spaced T t (busy r spent j past) = (r + T ≤ t) × AllByRecursion (λ d. d.released + T ≤ t) past
 
 -- the slot holds a task, and a period has passed since each of its releases
 abbrev pub MayRelease : (y : System) → State y → ℕ → Type 0
@@ -82,13 +82,13 @@ GoesAhead y s i k =
 
 pub record MayTick (y : System) (s : State y) (cs : List (Place y.Outcome)) : Type 0 where
   -- each core runs a node that is ready, and the tick brings it an outcome that is allowed there
-  pub allowed : All (λ c. (c.slot < y.plan.slots) × MayHaveAt (y.jobs c.slot) c.turn (s.slot c.slot)) cs
+  pub allowed : AllByRecursion (λ c. (c.slot < y.plan.slots) × MayHaveAt (y.jobs c.slot) c.turn (s.slot c.slot)) cs
   -- no node has two cores
   pub once : (k v : ℕ) → places_of k v cs ≤ 1
   pub few : length cs ≤ y.plan.cores
   -- where a ready node has no core, all cores have nodes of its job, or of jobs that go ahead of it
   pub work_conserving : (k w : ℕ) → Held y.plan k → ReadyAt (y.jobs k) w (s.slot k) → places_of k w cs ≡ 0
-      → (length cs ≡ y.plan.cores) × All (λ c. (c.slot ≡ k) ⊎ GoesAhead y s c.slot k) cs
+      → (length cs ≡ y.plan.cores) × AllByRecursion (λ c. (c.slot ≡ k) ⊎ GoesAhead y s c.slot k) cs
 
 abbrev pub settle : {S : Type 0} → Bool → ℕ → ℕ → List ℕ → S → List Done → Slot S
 settle true t r spent j past = idle (record { released = r; spent = spent; ended = t } ∷ past)

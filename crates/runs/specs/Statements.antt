@@ -1,13 +1,13 @@
 -- The response-time theorem: in every run each job ends within its bound. Assumes nothing.
 use Rattle.std.specs.Prelude.{◌≡◌, ℕ, ◌+◌, ◌<◌, ◌≤◌, Bool, true, ◌⊎◌, List, [], ◌∷◌}
-use Rattle.std.specs.List.{AllByRecursion as All}
+use Rattle.std.specs.List.{AllByRecursion}
 use Rattle.runs.specs.Jobs.{Jobs, Turn}
 use Rattle.runs.specs.System.{Plan, Held, Bounded, System, SoundJobs}
 use Rattle.runs.specs.Run.{Done, Slot, idle, busy, State, start, MayRelease, release, Run}
 
 -- each job that has ended did so within R ticks of its release
 abbrev pub OnTime : ℕ → List Done → Type 0
-OnTime R past = All (λ d. d.ended ≤ d.released + R) past
+OnTime R past = AllByRecursion (λ d. d.ended ≤ d.released + R) past
 
 -- and an open job is younger than R ticks
 abbrev pub TimelySlot : {S : Type 0} → ℕ → ℕ → Slot S → Type 0

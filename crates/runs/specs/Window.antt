@@ -1,6 +1,6 @@
 -- What the jobs of one task use of m cores in a window of ticks. Assumes nothing.
 use Rattle.std.specs.Prelude.{ℕ, ◌+◌, ◌*◌, ◌<◌, ◌≤◌, Bool, cond, ◌&&◌, List, [], ◌∷◌, length, nat_le, nat_lt}
-use Rattle.std.specs.List.{AllByRecursion as All}
+use Rattle.std.specs.List.{AllByRecursion}
 use Rattle.bounds.specs.Equation.{jobs_in}
 use Rattle.runs.specs.Counts.{count_if, times, sum_of}
 
@@ -11,7 +11,7 @@ pub record Job : Type 0 where
 
 -- the job used cores only in the R ticks from its release on, at most m in one tick, and W core-ticks in all
 pub record Fits (m W R : ℕ) (j : Job) : Type 0 where
-  pub inside : All (λ t. (j.released ≤ t) × (t < j.released + R)) j.spent
+  pub inside : AllByRecursion (λ t. (j.released ≤ t) × (t < j.released + R)) j.spent
   pub narrow : (t : ℕ) → times t j.spent ≤ m
   pub short : length j.spent ≤ W
 
@@ -36,7 +36,7 @@ used a n j = count_if (in_window a n) j.spent
 -- job may reach into the window: then the oldest, which is carried in, and the newest, which is cut off, use no more than W together.
 abbrev pub WindowBounded : Type 0
 WindowBounded =
-    (m T R W a n : ℕ) (jobs : List Job) → 1 ≤ m → 1 ≤ T → W ≤ m * T → W ≤ m * R → 1 ≤ n → Apart T jobs → All (Fits m W R) jobs
+    (m T R W a n : ℕ) (jobs : List Job) → 1 ≤ m → 1 ≤ T → W ≤ m * T → W ≤ m * R → 1 ≤ n → Apart T jobs → AllByRecursion (Fits m W R) jobs
     → sum_of (used a n) jobs ≤ W * jobs_in m T W (n + R)
 
 -- what the job used in the window, if its release passes the test
@@ -49,5 +49,5 @@ reaches ahead a R j = nat_lt a (j.released + R) && ahead j.released
 
 abbrev pub AheadBounded : Type 0
 AheadBounded =
-    (m R W a n c : ℕ) (ahead : ℕ → Bool) (jobs : List Job) → All (Fits m W R) jobs → count_if (reaches ahead a R) jobs ≤ c
+    (m R W a n c : ℕ) (ahead : ℕ → Bool) (jobs : List Job) → AllByRecursion (Fits m W R) jobs → count_if (reaches ahead a R) jobs ≤ c
     → sum_of (used_ahead ahead a n) jobs ≤ W * c

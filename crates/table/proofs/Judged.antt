@@ -1,6 +1,6 @@
 -- A record in range has every field in range, so none is the first that is out.
 use Rattle.std.proofs.Common.{◌≡◌, ℕ, ◌<◌, ◌≤◌, List, [], ◌∷◌, sym, refl, ◌∙◌, inl, inr, arith}
-use Rattle.std.specs.List.{AllByRecursion as All}
+use Rattle.std.specs.List.{AllByRecursion}
 use Rattle.table.specs.declared.records.Role.{Role}
 use Rattle.table.specs.declared.records.Role.TheVariants.{Plain, Opening, Closing}
 use Rattle.table.specs.declared.records.Region.{Region}
@@ -29,7 +29,7 @@ region_fits : (own : ℕ) (r : Region) → own < 255 → RegionInRange own r
 region_fits own Top few h = (inl refl, (omega arith, (λ e. refl)))
 region_fits own (Branch home branch) few h = (inr h.0, (omega (arith, h.1), (λ e. absurd (omega (arith, h.0)))))
 
-all_fit : (nodes : ℕ) (r : Record) → Few nodes (kind r) → InRange nodes r → All (Fits nodes (fields r)) (fields_of (kind r))
+all_fit : (nodes : ℕ) (r : Record) → Few nodes (kind r) → InRange nodes r → AllByRecursion (Fits nodes (fields r)) (fields_of (kind r))
 all_fit nodes (task t) few h =
     let p = number_back t.period (omega (arith, h.short_period)) in
     let d = number_back t.deadline (omega (arith, h.short_period, h.deadline_in_period)) in (
@@ -43,7 +43,7 @@ all_fit nodes (node n) few h =
     (r.0, (r.1, (p.0, (p.1, ((omega (arith, h.some_time), omega (arith, h.short_time)), tt)))))
 all_fit nodes (arc a) few h = (h.to_a_node, (h.upwards, tt))
 
-none_out : (nodes : ℕ) (bytes : List ℕ) (gs : List Field) (f : Field) → All (Fits nodes bytes) gs → FirstOut nodes bytes gs f → ⊥
+none_out : (nodes : ℕ) (bytes : List ℕ) (gs : List Field) (f : Field) → AllByRecursion (Fits nodes bytes) gs → FirstOut nodes bytes gs f → ⊥
 none_out nodes bytes [] f all out = out
 none_out nodes bytes (g ∷ gs) f all (inl h) = h.1 all.0
 none_out nodes bytes (g ∷ gs) f all (inr h) = none_out nodes bytes gs f all.1 h.1

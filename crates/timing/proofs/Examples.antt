@@ -2,7 +2,7 @@
 use Rattle.std.proofs.Common.{◌≡◌, ℕ, zero, suc, ◌+◌, ◌*◌, ◌<◌, ◌≤◌, Bool, true, false, cond, ◌&&◌, eqb, ltb, ◌⊎◌, List, [], ◌∷◌, length, ℤ, pos, neg_ℤ, ◌<ℤ◌, Some, None, refl, subst, inl, inr, arith, lit<, lit≤}
 use Rattle.std.proofs.lemmas.Bool.Decides.{nat_tests}
 use Rattle.std.proofs.lemmas.Bool.{and_parts, ltb-true}
-use Rattle.std.specs.List.{AllByRecursion as All}
+use Rattle.std.specs.List.{AllByRecursion}
 use Rattle.order.specs.Laws.{AtMost, Orderly}
 use Rattle.order.specs.Orders.{smaller_slot, slot_cap}
 use Rattle.timing.specs.Counts.{bit, sum_to, apart_from}
@@ -28,11 +28,11 @@ one_first a b ne = go (ltb a b) refl
 on_and_on : (a b c : ℕ) → ltb a b ≡ true → ltb b c ≡ true → ltb a c ≡ true
 on_and_on a b c h k = grind (arith, nat_tests)
 
-none_pass : (R : ℕ) (ds : List ℤ) → All (λ d. (neg_ℤ (pos R) <ℤ d) × (false ≡ true)) ds → length ds ≤ 0
+none_pass : (R : ℕ) (ds : List ℤ) → AllByRecursion (λ d. (neg_ℤ (pos R) <ℤ d) × (false ≡ true)) ds → length ds ≤ 0
 none_pass R [] a = omega arith
 none_pass R (d ∷ ds) a = absurd (grind (arith, a.0.1))
 
-capped_when : (b : Bool) (R c : ℕ) → cond b None (Some 0) ≡ Some c → (ds : List ℤ) → All (λ d. (neg_ℤ (pos R) <ℤ d) × (b ≡ true)) ds → length ds ≤ c
+capped_when : (b : Bool) (R c : ℕ) → cond b None (Some 0) ≡ Some c → (ds : List ℤ) → AllByRecursion (λ d. (neg_ℤ (pos R) <ℤ d) × (b ≡ true)) ds → length ds ≤ c
 capped_when true R c e ds a = absurd (let z : ◌≡◌ {A = ℕ} 0 1 = cc in omega arith)
 capped_when false R c e ds a =
     let z : 0 ≡ c = cc in
@@ -108,7 +108,7 @@ first_tick =
       once = both_once;
       few = lit≤ tt;
       work_conserving = λ k w h ready missed.
-          (refl, below_two (λ i. All (λ c. (c.slot ≡ i) ⊎ GoesAhead example both_open c.slot i) both) (inl refl, (inl refl, tt)) (inr refl, (inr refl, tt)) k h.0);
+          (refl, below_two (λ i. AllByRecursion (λ c. (c.slot ≡ i) ⊎ GoesAhead example both_open c.slot i) both) (inl refl, (inl refl, tt)) (inr refl, (inr refl, tt)) k h.0);
     }
 
 alone_ticks : (s : State example) → ReadyAt (example.jobs 1) 0 (s.slot 1) → ((w : ℕ) → ReadyAt (example.jobs 0) w (s.slot 0) → ⊥)

@@ -2,7 +2,7 @@
 use Rattle.std.proofs.Common.{◌≡◌, ℕ, zero, suc, ◌+◌, ◌<◌, ◌≤◌, Bool, true, false, cond, ◌&&◌, eqb, ◌⊎◌, List, [], ◌∷◌, length, sym, refl, subst, inl, inr, arith}
 use Rattle.std.proofs.lemmas.Bool.Decides.{nat_tests}
 use Rattle.std.proofs.lemmas.Bool.{cases_lt, cases_eq, eqb-true, and_parts}
-use Rattle.std.specs.List.{AllByRecursion as All}
+use Rattle.std.specs.List.{AllByRecursion}
 use Rattle.timing.specs.Counts.{bit, sum_to}
 use Rattle.timing.specs.Jobs.{Jobs, Turn, turns_of, Fair}
 use Rattle.timing.specs.System.{System, Held}
@@ -54,7 +54,7 @@ module _ {O : Type 0} where
       go true e = omega arith
       go false e = omega arith
 
-  all_turns : (n : ℕ) (cs : List (Place O)) → All (λ c. c.slot < n) cs → sum_to n (λ k. length (turns_for k cs)) ≡ length cs
+  all_turns : (n : ℕ) (cs : List (Place O)) → AllByRecursion (λ c. c.slot < n) cs → sum_to n (λ k. length (turns_for k cs)) ≡ length cs
   all_turns n [] h = sum_to_none n
   all_turns n (c ∷ cs) h = omega (arith, split n, sum_to_add n (λ k. bit (eqb k c.slot)) (λ k. length (turns_for k cs)), one_node n c.slot h.0, all_turns n cs h.1)
     where
@@ -63,7 +63,7 @@ module _ {O : Type 0} where
       split (suc i) = omega (arith, length_turns i c cs, split i)
 
   -- a slot with turns has a place
-  place_of : (P : ℕ → Type 0) (i : ℕ) (cs : List (Place O)) → All (λ c. P c.slot) cs → 1 ≤ length (turns_for i cs) → P i
+  place_of : (P : ℕ → Type 0) (i : ℕ) (cs : List (Place O)) → AllByRecursion (λ c. P c.slot) cs → 1 ≤ length (turns_for i cs) → P i
   place_of P i [] h l = absurd (omega arith)
   place_of P i (c ∷ cs) h l =
       elim (cases_eq i c.slot) [ inl e ↦ subst P (sym e) h.0 | inr ne ↦ place_of P i cs h.1 (omega (arith, length_turns i c cs, other i c.slot ne)) ]
@@ -71,7 +71,7 @@ module _ {O : Type 0} where
       other : (a b : ℕ) → (a ≡ b → ⊥) → bit (eqb a b) ≡ 0
       other a b n = grind (arith, nat_tests)
 
-  place_of_node : (P : ℕ → ℕ → Type 0) (k v : ℕ) (cs : List (Place O)) → All (λ c. P c.slot c.turn.node) cs → 1 ≤ places_of k v cs → P k v
+  place_of_node : (P : ℕ → ℕ → Type 0) (k v : ℕ) (cs : List (Place O)) → AllByRecursion (λ c. P c.slot c.turn.node) cs → 1 ≤ places_of k v cs → P k v
   place_of_node P k v [] h l = absurd (omega arith)
   place_of_node P k v (c ∷ cs) h l = go (eqb k c.slot && eqb v c.turn.node) refl l (place_of_node P k v cs h.1)
     where
@@ -81,11 +81,11 @@ module _ {O : Type 0} where
           subst (λ (u : ℕ). P k u) (sym (eqb-true v c.turn.node parts.1)) (subst (λ (i : ℕ). P i c.turn.node) (sym (eqb-true k c.slot parts.0)) h.0)
       go false e some rest = rest (omega arith)
 
-all_first : {X : Type 0} (P Q : X → Type 0) (xs : List X) → All (λ x. P x × Q x) xs → All P xs
+all_first : {X : Type 0} (P Q : X → Type 0) (xs : List X) → AllByRecursion (λ x. P x × Q x) xs → AllByRecursion P xs
 all_first P Q [] h = tt
 all_first P Q (x ∷ xs) h = (h.0.0, all_first P Q xs h.1)
 
-all_second : {X : Type 0} (P Q : X → Type 0) (xs : List X) → All (λ x. P x × Q x) xs → All Q xs
+all_second : {X : Type 0} (P Q : X → Type 0) (xs : List X) → AllByRecursion (λ x. P x × Q x) xs → AllByRecursion Q xs
 all_second P Q [] h = tt
 all_second P Q (x ∷ xs) h = (h.0.1, all_second P Q xs h.1)
 
@@ -106,7 +106,7 @@ module _ (y : System) (s : State y) (cs : List (Place y.Outcome)) (may : MayTick
   open_slot i h =
       place_of (λ k. (v : ℕ) × ReadyAt (y.jobs k) v (s.slot k)) i cs (each cs may.ready) h
     where
-      each : (ds : List (Place y.Outcome)) → All (λ c. (c.slot < y.plan.slots) × ReadyAt (y.jobs c.slot) c.turn.node (s.slot c.slot)) ds → All (λ c. (v : ℕ) × ReadyAt (y.jobs c.slot) v (s.slot c.slot)) ds
+      each : (ds : List (Place y.Outcome)) → AllByRecursion (λ c. (c.slot < y.plan.slots) × ReadyAt (y.jobs c.slot) c.turn.node (s.slot c.slot)) ds → AllByRecursion (λ c. (v : ℕ) × ReadyAt (y.jobs c.slot) v (s.slot c.slot)) ds
       each [] a = tt
       each (d ∷ ds) a = ((d.turn.node, a.0.1), each ds a.1)
 
@@ -116,7 +116,7 @@ module _ (y : System) (s : State y) (cs : List (Place y.Outcome)) (may : MayTick
   fair_at k (busy r sp j past) opened ready = λ v. (omega (arith, turns_are_places k v cs, may.once k v), λ h. ready v (omega (arith, turns_are_places k v cs)))
 
   conserving_at : (k : ℕ) (x : Slot (y.jobs k).State) →
-      ((w : ℕ) → ReadyAt (y.jobs k) w x → places_of k w cs ≡ 0 → (length cs ≡ y.plan.cores) × All (λ c. (c.slot ≡ k) ⊎ OpenAt (λ r. OpenAt (λ q. goes_ahead y.plan k r c.slot q ≡ true) (s.slot c.slot)) x) cs) →
+      ((w : ℕ) → ReadyAt (y.jobs k) w x → places_of k w cs ≡ 0 → (length cs ≡ y.plan.cores) × AllByRecursion (λ c. (c.slot ≡ k) ⊎ OpenAt (λ r. OpenAt (λ q. goes_ahead y.plan k r c.slot q ≡ true) (s.slot c.slot)) x) cs) →
       Conserving y s turns k x
   conserving_at k (idle past) h = tt
   conserving_at k (busy r sp j past) h = λ w ready none.

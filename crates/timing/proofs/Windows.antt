@@ -2,7 +2,7 @@
 use Rattle.std.proofs.Common.{◌≡◌, ℕ, zero, suc, ◌+◌, ◌-◌, ◌*◌, ◌<◌, ◌≤◌, Bool, true, false, cond, ◌&&◌, ltb, ◌⊎◌, List, [], ◌∷◌, refl, ap, inl, inr, mul-le-mul_left, arith}
 use Rattle.std.proofs.lemmas.Bool.Decides.{nat_tests}
 use Rattle.std.proofs.lemmas.Bool.{cases_lt, ltb-false}
-use Rattle.std.specs.List.{AllByRecursion as All}
+use Rattle.std.specs.List.{AllByRecursion}
 use Rattle.timing.specs.Counts.{bit, count_if, sum_of}
 use Rattle.timing.specs.Window.{Job, Fits, ApartBefore, Apart, in_window, used, jobs_in, WindowBounded, used_ahead, reaches, AheadBounded}
 use Rattle.timing.proofs.Counting.{count_if_mono, count_if_length, count_narrow, div_up_enough, sum_of_mono}
@@ -60,7 +60,7 @@ module _ (m T R W a n : ℕ) (period : W ≤ m * T) where
 
   -- No job runs past its end, so for each M the jobs released at least T before b use at most W for each of M jobs,
   -- and what is left of the ticks before the last end.
-  older_bounded : (M b : ℕ) (js : List Job) → ApartBefore T b js → All (Fits m W R) js → sum_of (used a n) js ≤ W * M + (m * room b - m * T * M)
+  older_bounded : (M b : ℕ) (js : List Job) → ApartBefore T b js → AllByRecursion (Fits m W R) js → sum_of (used a n) js ≤ W * M + (m * room b - m * T * M)
   unfolding room
   older_bounded M b [] sp fit = omega arith
   older_bounded zero b (j ∷ js) sp fit =
@@ -91,7 +91,7 @@ module _ (m T R W a n : ℕ) (period : W ≤ m * T) where
   spread_tail b [] sp = tt
   spread_tail b (j ∷ js) sp = sp.1
 
-  pub jobs_bounded : (M : ℕ) (js : List Job) → m * (n + R) ≤ W + m * T * suc M → Apart T js → All (Fits m W R) js → sum_of (used a n) js ≤ W * suc M
+  pub jobs_bounded : (M : ℕ) (js : List Job) → m * (n + R) ≤ W + m * T * suc M → Apart T js → AllByRecursion (Fits m W R) js → sum_of (used a n) js ≤ W * suc M
   jobs_bounded M [] enough sp fit = omega arith
   jobs_bounded M (j ∷ js) enough sp fit =
       let rest = jobs_bounded M js enough (spread_tail j.released js sp) fit.1 in
@@ -123,7 +123,7 @@ one_ahead m R W a n ahead j fit =
     go false true h = omega arith
     go false false h = omega arith
 
-pub ahead_counted : (m R W a n : ℕ) (ahead : ℕ → Bool) (jobs : List Job) → All (Fits m W R) jobs → sum_of (used_ahead ahead a n) jobs ≤ W * count_if (reaches ahead a R) jobs
+pub ahead_counted : (m R W a n : ℕ) (ahead : ℕ → Bool) (jobs : List Job) → AllByRecursion (Fits m W R) jobs → sum_of (used_ahead ahead a n) jobs ≤ W * count_if (reaches ahead a R) jobs
 ahead_counted m R W a n ahead [] fit = omega arith
 ahead_counted m R W a n ahead (j ∷ jobs) fit = omega (arith, one_ahead m R W a n ahead j fit.0, ahead_counted m R W a n ahead jobs fit.1)
 
