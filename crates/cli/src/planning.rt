@@ -1,5 +1,5 @@
 // The tasks of a plan with their figures, and what admission answers.
-ghost use Rattle.std.specs.Prelude.{◌≡◌, ◌<◌, ◌≤◌, Some as some_demand, slice_set};
+ghost use Rattle.std.specs.Prelude.{◌≡◌, ◌<◌, ◌≤◌, Some as SomeDemand, slice_set};
 ghost use Rattle.cli.specs.Verdicts.{Judged, verdict_of};
 
 use crate::figures::Share;
@@ -53,7 +53,7 @@ pub(crate) type Slots = [Option<Demand>; 16];
 
 // Puts what a task asks into its slot.
 pub(crate) fn seat(slots: &mut Slots, slot: u8, demand: Demand)
-    ensures there { slot < 16 → slots.new ≡ slice_set slots.old slot (some_demand demand) }
+    ensures there { slot < 16 → slots.new ≡ slice_set slots.old slot (SomeDemand demand) }
     ensures elsewhere { 16 ≤ slot → slots.new ≡ slots.old }
 {
     let slot = usize::from(slot);

@@ -11,7 +11,7 @@ use Rattle.dispatch.proofs.Alike.{placed_alike}
 use Rattle.controller.specs.declared.precedence.Entrant.{Entrant}
 use Rattle.controller.specs.Ahead.{AheadAmong}
 use Rattle.controller.specs.State.{Meaning, party, GoesAhead}
-use Rattle.controller.specs.Steps.{entrant, entrants_are, Precedence}
+use Rattle.controller.specs.Steps.{entrant, EntrantsAre, Precedence}
 use Rattle.controller.proofs.Epoch.{PlacedBy}
 
 -- who is an entrant has a task and an open job
@@ -27,7 +27,7 @@ entered s None y e h = absurd (let z : ◌≡◌ {A = ℕ} 0 1 = cc in omega ari
 entered s (Some τ) None e h = absurd (let z : ◌≡◌ {A = ℕ} 0 1 = cc in omega arith)
 entered s (Some τ) (Some j) e h = record { task = τ; job = j; held = refl; open_job = refl; seen_as = cc }
 
-module _ (o : Meaning) (tasks : List (Option Task)) (jobs : List (Option Job)) (es : List (Option Entrant)) (are : entrants_are tasks jobs es) where
+module _ (o : Meaning) (tasks : List (Option Task)) (jobs : List (Option Job)) (es : List (Option Entrant)) (are : EntrantsAre tasks jobs es) where
   forth : (i k : ℕ) → i < 16 → AheadAmong o.goes es i k → GoesAhead o tasks jobs i k
   forth i k l (m, inl e) = (l, m, inl e)
   forth i k l (m, inr f) =

@@ -46,13 +46,13 @@ checks (Share s a b) = slot_exists s ∷ slot_held s ∷ node_exists s a ∷ nod
 checks (CloseTick outcomes) = tick_open ∷ outcome_for_each_core outcomes ∷ outcomes_allowed outcomes ∷ []
 
 -- released, and not yet a period ago
-pub record Early (t : Tables) (s : ℕ) (to-go : ℕ) : Type 0 where
+pub record Early (t : Tables) (s : ℕ) (to_go : ℕ) : Type 0 where
   pub task : Task
   pub held : task_in t s ≡ Some task
   pub waited : ℕ
   pub since : waited_in t s ≡ Some waited
   pub short : waited < period task
-  pub left : to-go ≡ period task - waited
+  pub left : to_go ≡ period task - waited
 
 -- the node is none of the task's
 pub record PastNodes (t : Tables) (s v : ℕ) : Type 0 where

@@ -48,8 +48,8 @@ entrant s None job = None
 entrant s (Some τ) None = None
 entrant s (Some τ) (Some j) = Some (record { party = party s τ; age = j.age })
 
-abbrev pub entrants_are : List (Option Task) → List (Option Job) → List (Option Entrant) → Type 0
-entrants_are tasks jobs es = (s : ℕ) → s < 16 → slice_index_or es s None ≡ entrant s (task_at tasks s) (job_at jobs s)
+abbrev pub EntrantsAre : List (Option Task) → List (Option Job) → List (Option Entrant) → Type 0
+EntrantsAre tasks jobs es = (s : ℕ) → s < 16 → slice_index_or es s None ≡ entrant s (task_at tasks s) (job_at jobs s)
 
 -- row i has the slots whose jobs the job of slot i goes ahead of
 abbrev pub Precedence : Meaning → List (Option Task) → List (Option Job) → List BitSet → Type 0

@@ -4,7 +4,7 @@ ghost use Rattle.sets.specs.Sets.{Marks};
 ghost use Rattle.sets.specs.Tests.{Says};
 ghost use Rattle.controller.specs.State.{meaning};
 ghost use Rattle.controller.specs.Ahead.{AheadAmong};
-ghost use Rattle.controller.specs.Steps.{entrant, entrants_are, Precedence};
+ghost use Rattle.controller.specs.Steps.{entrant, EntrantsAre, Precedence};
 
 use dispatch::job::Job;
 use order::{Order, Party};
@@ -40,7 +40,7 @@ fn entrant_of(slot: u8, task: &Option<Task>, job: &Option<Job>) -> Option<Entran
 
 // The open jobs by slot.
 fn entrants_of(tasks: &[Option<Task>; 16], jobs: &[Option<Job>; 16]) -> [Option<Entrant>; 16]
-    ensures { entrants_are tasks.now jobs.now result }
+    ensures { EntrantsAre tasks.now jobs.now result }
 {
     let mut found = [None; 16];
     for slot in 0..16u8 {

@@ -7,7 +7,7 @@ ghost use Rattle.table.specs.declared.records.Role.TheVariants.{Opening};
 ghost use Rattle.task.specs.Graph.{BranchesFew, HasBranch, role as role_at};
 ghost use Rattle.dispatch.specs.Closing.{meant, RightFor, RightOn, AllRight, Moved, Closed};
 ghost use Rattle.dispatch.specs.Moves.{Fits, RightOf, RightInSlot, Rights, MovesTo, Runs, Fated};
-ghost use Rattle.dispatch.specs.Spots.{spot_at, spot as spot_of_lem};
+ghost use Rattle.dispatch.specs.Spots.{spot_at, spot as spot_told};
 ghost use Rattle.dispatch.specs.Tables.{task_nodes, task_arcs};
 
 use crate::job::Job;
@@ -143,7 +143,7 @@ pub fn first_wrong(
 
 // The node of the slot that a core runs.
 fn node_in(spot: Option<Spot>, slot: u8) -> Option<u8>
-    ensures { elim result [ Some n ↦ spot ≡ Some (spot_of_lem slot n) | None ↦ ((n : ℕ) → spot ≢ Some (spot_of_lem slot n)) ] }
+    ensures { elim result [ Some n ↦ spot ≡ Some (spot_told slot n) | None ↦ ((n : ℕ) → spot ≢ Some (spot_told slot n)) ] }
 {
     match spot {
         Some(spot) if spot.slot == slot => Some(spot.node),

@@ -1,6 +1,5 @@
 pub mod Close
 pub mod Counts
-pub mod Ended
 pub mod Entering
 pub mod Progress
 pub mod Share

@@ -4,12 +4,12 @@ use Rattle.std.proofs.lemmas.List.{append-nil, append_assoc}
 use Rattle.std.specs.Str.Lines.{IsFirstLine}
 use Rattle.plans.specs.declared.plan.Flaw.TheVariants.{Expected, SlotTaken, Missing, NoMemory}
 use Rattle.plans.specs.declared.plan.Precedence.{Precedence}
-use Rattle.plans.specs.Entries.{Placed, cores_in, order_in, last_said, OpenTask, Fits, FitBehind, Fitting}
+use Rattle.plans.specs.Entries.{Placed, cores_in, order_in, last_said, entries, HasSlot, OpenTask, Fits, FitBehind, Fitting}
 use Rattle.plans.specs.Lines.{LinesTo, Stated}
-use Rattle.plans.specs.Parsed.{OfTable, Unexpected, TakesSlot, ReadTo, WrongAt, LacksLine, NoFlaw}
+use Rattle.plans.specs.Parsed.{OfTable, NamesSlot, Unexpected, TakesSlot, ReadTo, WrongAt, LacksLine, NoFlaw}
 use Rattle.plans.specs.Statements.{Word, Said, cores, order, task, node, arc, Makes}
 use Rattle.plans.proofs.OneText.{one_line, one_lines, one_worded, one_stated}
-use Rattle.plans.proofs.Unambiguous.{one_statement_lem}
+use Rattle.plans.proofs.Unambiguous.{one_number, at, byte, one_statement_lem}
 
 -- the first lines of a text that is read whole
 lines_split : (text : List ℕ) (ls ms : List (List ℕ)) (rest line more : List ℕ) → LinesTo text ls [] → LinesTo text ms rest → 0 < length rest → IsFirstLine rest line more
@@ -59,13 +59,25 @@ abbrev Refuted : (List Placed → List Word → Type 0) → Type 0
 Refuted Wrong = (qs : List Placed) (words : List Word) → Wrong qs words → (words ≡ [] → ⊥) × ((s : Said) → Makes words s → Fits qs s → ⊥)
 
 unexpected : Refuted Unexpected
-unexpected qs words (inl (some, none)) = (some, λ s m f. none s m)
+unexpected qs words (inl (some, none, free)) = (some, λ s m f. none s m)
 unexpected qs words (inr (t, k, of-table, shut)) =
     (λ e. subst (λ (l : List Word). Makes l t) e k, λ s m f. shut (opened_by qs t of-table (subst (Fits qs) (one_statement_lem words s t m k) f)))
 
+-- no statement that fits is made of words that begin a task in a taken slot
+slot_barred : (slot : ℕ) (qs : List Placed) (words : List Word) → NamesSlot words slot → HasSlot slot (entries qs) → (s : Said) → Makes words s → Fits qs s → ⊥
+slot_barred slot qs [] n has s m f = m
+slot_barred slot qs (first ∷ ws) n has (cores x) m f = absurd (omega (arith, byte 0 _ _ (sym m.0 ∙ at 0 _ _ n.words_are)))
+slot_barred slot qs (first ∷ ws) n has (order x) m f = absurd (omega (arith, byte 0 _ _ (sym m.0 ∙ at 0 _ _ n.words_are)))
+slot_barred slot qs (first ∷ ws) n has (task name k t) m f =
+    f (
+    subst (λ (i : ℕ). HasSlot i (entries qs))
+    (one_number 15 15 _ _ slot k (sym (at 3 _ _ n.words_are) ∙ at 2 _ _ m.1.words_are) n.slot_said m.1.slot_said) has
+    )
+slot_barred slot qs (first ∷ ws) n has (node x) m f = absurd (omega (arith, byte 0 _ _ (sym m.0 ∙ at 0 _ _ n.words_are)))
+slot_barred slot qs (first ∷ ws) n has (arc x) m f = absurd (omega (arith, byte 0 _ _ (sym m.0 ∙ at 0 _ _ n.words_are)))
+
 slot_taken : (slot : ℕ) → Refuted (TakesSlot slot)
-slot_taken slot qs words (name, t, k, has) =
-    (λ e. subst (λ (l : List Word). Makes l (task name slot t)) e k, λ s m f. subst (Fits qs) (one_statement_lem words s (task name slot t) m k) f has)
+slot_taken slot qs words (n, has) = (λ e. absurd (omega (arith, ap length (sym e ∙ n.words_are))), slot_barred slot qs words n has)
 
 not_wrong : (text : List ℕ) (number n : ℕ) (ps : List Placed) (Wrong : List Placed → List Word → Type 0) → Refuted Wrong
     → ReadTo text [] number ps → WrongAt text n Wrong → ⊥

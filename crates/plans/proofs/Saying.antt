@@ -11,11 +11,12 @@ use Rattle.plans.specs.declared.plan.Precedence.{Precedence}
 use Rattle.plans.specs.declared.plan.Precedence.TheVariants.{Fixed, Open}
 use Rattle.plans.specs.declared.statement.Statement.{Statement}
 use Rattle.std.specs.Str.Parse.{without_leading_plus, digits_value}
-use Rattle.plans.specs.Numerals.{Counts}
+use Rattle.plans.specs.Numerals.{Counts, Counted}
+use Rattle.plans.specs.Parsed.{NamesSlot}
 use Rattle.plans.specs.Statements.{Word, ToldTable, timed, filed, Said, cores, order, task, arc, greatest_time, role_word, order_word, texts}
 use Rattle.plans.specs.Statements.{BranchSaid, RegionSaid, PlaceSaid, Sits, Closes, NodeSaid, TimesSaid, FileSaid, TableSaid, GoesOn, Makes, Heard, Found, ReadAs}
 use Rattle.plans.proofs.Keywords.{only_cores, only_order, only_task, only_arc, no_keyword}
-use Rattle.plans.proofs.Spelled.{Slice, nth, behind, length_texts, spelled_0, spelled_1, spelled_2, spelled_4, opened_1, opened_2, opened_3}
+use Rattle.plans.proofs.Spelled.{Slice, nth, behind, length_texts, spelled_0, spelled_1, spelled_2, spelled_4, opened_1, opened_2, opened_3, opened_4}
 
 -- a list of words is as long as the slice that has them
 as_long : (ws : Slice) (words : List Word) → texts ws ≡ words → length ws ≡ length words
@@ -297,3 +298,19 @@ module _ (ws : Slice) where
   pub no_statement : 1 ≤ length ws → (nth ws 0 ≡ codes "cores" → ⊥) → (nth ws 0 ≡ codes "order" → ⊥) → (nth ws 0 ≡ codes "task" → ⊥)
       → (nth ws 0 ≡ codes "node" → ⊥) → (nth ws 0 ≡ codes "arc" → ⊥) → (s : Said) → Makes (texts ws) s → ⊥
   no_statement l a b c d e s k = no_keyword (nth ws 0) (behind ws 1) a b c d e s (subst (λ (v : List Word). Makes v s) (opened_1 ws l) k)
+
+-- the slot of a task that the words begin
+
+pub slot_told : (ws : Slice) (r : Option ℕ) → 4 ≤ length ws → nth ws 0 ≡ codes "task" → nth ws 2 ≡ codes "slot" → Counted 15 (nth ws 3) r
+    → Found (NamesSlot (texts ws)) r
+slot_told ws (Some n) l t s k = record {
+  name = nth ws 1;
+  number = nth ws 3;
+  rest = behind ws 4;
+  words_are = opened_4 ws l ∙ ap (λ (w : Word). w ∷ nth ws 1 ∷ nth ws 2 ∷ nth ws 3 ∷ behind ws 4) t
+      ∙ ap (λ (w : Word). codes "task" ∷ nth ws 1 ∷ w ∷ nth ws 3 ∷ behind ws 4) s;
+  slot_said = k;
+}
+slot_told ws None l t s k = λ n m. k n (
+    subst (λ (w : Word). Counts 15 w n) (ap (λ (v : List Word). get_or v 3 []) (sym m.words_are ∙ opened_4 ws l)) m.slot_said
+    )

@@ -53,3 +53,10 @@ opened_3 [] l = absurd (omega arith)
 opened_3 (a ∷ []) l = absurd (omega arith)
 opened_3 (a ∷ b ∷ []) l = absurd (omega arith)
 opened_3 (a ∷ b ∷ x ∷ ws) l = ap (λ (v : Slice). a.now ∷ b.now ∷ x.now ∷ texts v) (sym (take_rest (a ∷ b ∷ x ∷ ws) 3))
+
+pub opened_4 : (ws : Slice) → 4 ≤ length ws → texts ws ≡ nth ws 0 ∷ nth ws 1 ∷ nth ws 2 ∷ nth ws 3 ∷ behind ws 4
+opened_4 [] l = absurd (omega arith)
+opened_4 (a ∷ []) l = absurd (omega arith)
+opened_4 (a ∷ b ∷ []) l = absurd (omega arith)
+opened_4 (a ∷ b ∷ x ∷ []) l = absurd (omega arith)
+opened_4 (a ∷ b ∷ x ∷ y ∷ ws) l = ap (λ (v : Slice). a.now ∷ b.now ∷ x.now ∷ y.now ∷ texts v) (sym (take_rest (a ∷ b ∷ x ∷ y ∷ ws) 4))

@@ -1,4 +1,5 @@
 -- The lines of a text, as they are read.
+use Rattle.std.specs.Prelude.{codes}
 use Rattle.std.proofs.Common.{◌≡◌, ℕ, ◌+◌, ◌<◌, ◌≤◌, true, false, eqb, ◌⊎◌, List, [], ◌∷◌, ◌++◌, length, drop, Ok, Err, Result, sym, refl, ap, ◌∙◌, subst, inl, inr, arith}
 use lib.Utf8.{encode}
 use Rattle.std.proofs.lemmas.List.{length-append, nil_from_length}
@@ -9,11 +10,11 @@ use Rattle.plans.specs.declared.draft.Draft.{Draft}
 use Rattle.plans.specs.declared.plan.Flaw.{Flaw}
 use Rattle.plans.specs.declared.plan.Flaw.TheVariants.{Expected, SlotTaken, Missing, NoMemory}
 use Rattle.plans.specs.declared.plan.PlanText.{PlanText}
-use Rattle.plans.specs.Drafts.{Drafted, Advances, ReadsLine, Finishes}
+use Rattle.plans.specs.Drafts.{Drafted, Advances, Blamed, ReadsLine, Finishes}
 use Rattle.plans.specs.Entries.{Placed}
 use Rattle.plans.specs.Lines.{LinesTo, Worded, Stated}
-use Rattle.plans.specs.Parsed.{ReadTo, Parsed}
-use Rattle.plans.specs.Statements.{Word, texts, Said, Makes}
+use Rattle.plans.specs.Parsed.{NamesSlot, ReadTo, Parsed}
+use Rattle.plans.specs.Statements.{Word, ToldTable, texts, Said, task, Makes}
 use Rattle.plans.proofs.Gathering.{fitting_more}
 use Rattle.plans.proofs.Spelled.{Slice, spelled_0}
 
@@ -29,13 +30,32 @@ some_words items len e f none = eqb-false len 0 (sym f) (e ∙ as_long items non
     as_long [] h = refl
     as_long (w ∷ ws) h = let z : ◌≡◌ {A = ℕ} 0 1 = cc in absurd (omega arith)
 
+-- the words of a task begin with its slot
+named_slot : (words : List Word) (name : Word) (slot : ℕ) (t : ToldTable) → Makes words (task name slot t) → NamesSlot words slot
+named_slot [] name slot t m = absurd m
+named_slot (first ∷ ws) name slot t m = record {
+  name = name;
+  number = m.1.number;
+  rest = m.1.rest;
+  words_are = ap (λ (w : Word). w ∷ ws) m.0 ∙ ap (λ (l : List Word). codes "task" ∷ l) m.1.words_are;
+  slot_said = m.1.slot_said;
+}
+
+-- what is wrong with the words is wrong with their line
+pub line_blamed : (ps : List Placed) (line : List ℕ) (number : ℕ) (words : List Word) (d : Draft) (flaw : Flaw) → Worded line words
+    → Blamed ps words number flaw → ReadsLine ps line number d (Err flaw)
+line_blamed ps line number words d (Expected at what) w b = (b.0, (words, w, b.1))
+line_blamed ps line number words d (SlotTaken at slot) w b = (b.0, (words, w, b.1))
+line_blamed ps line number words d (Missing what) w b = b
+line_blamed ps line number words d NoMemory w b = absurd b
+
 -- what a statement does to a draft, its line does
 pub line_advances : (ps : List Placed) (line : List ℕ) (number : ℕ) (words : List Word) (s : Said) (d : Draft) (r : Result Unit Flaw)
     → Worded line words → Makes words s → Advances ps s number d r → ReadsLine ps line number d r
 line_advances ps line number words s d (Ok x) w m a = inr (words, s, w, m, a.0, a.1)
 line_advances ps line number words s d (Err (Expected at what)) w m a = (a.0, (words, w, inr (s, m, a.1, a.2)))
 line_advances ps line number words s d (Err (SlotTaken at slot)) w m a =
-    (a.0, (words, w, (a.1.0, a.1.1, subst (Makes words) a.1.2 m, a.2)))
+    (a.0, (words, w, (named_slot words a.1.0 slot a.1.1 (subst (Makes words) a.1.2 m), a.2)))
 line_advances ps line number words s d (Err (Missing what)) w m a = a
 line_advances ps line number words s d (Err NoMemory) w m a = tt
 

@@ -14,14 +14,14 @@ use Rattle.plans.specs.Statements.{Word, ToldTable, timed, filed, Said, cores, o
 use Rattle.plans.specs.Statements.{RegionSaid, PlaceSaid, NodeSaid, TableSaid, TaskSaid, GoesOn, OneStatement}
 
 -- a word is one number at most
-one_number : (a b : ℕ) (v w : Word) (m n : ℕ) → v ≡ w → Counts a v m → Counts b w n → m ≡ n
+pub one_number : (a b : ℕ) (v w : Word) (m n : ℕ) → v ≡ w → Counts a v m → Counts b w n → m ≡ n
 one_number a b v w m n e j k = j.value ∙ ap (λ (x : Word). digits_value 10 (without_leading_plus x)) e ∙ sym k.value
 
 -- the word at a place of two lists that are equal
-at : (k : ℕ) (vs ws : List Word) → vs ≡ ws → get_or vs k [] ≡ get_or ws k []
+pub at : (k : ℕ) (vs ws : List Word) → vs ≡ ws → get_or vs k [] ≡ get_or ws k []
 at k vs ws e = ap (λ (l : List Word). get_or l k []) e
 
-byte : (k : ℕ) (v w : Word) → v ≡ w → get_or v k 0 ≡ get_or w k 0
+pub byte : (k : ℕ) (v w : Word) → v ≡ w → get_or v k 0 ≡ get_or w k 0
 byte k v w e = ap (λ (l : Word). get_or l k 0) e
 
 one_order : (o p : Precedence) → order_word o ≡ order_word p → o ≡ p

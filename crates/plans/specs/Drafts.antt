@@ -58,6 +58,13 @@ ReadsLine ps line number d (Err (SlotTaken at slot)) = (at ≡ number) × ((word
 ReadsLine ps line number d (Err (Missing what)) = ⊥
 ReadsLine ps line number d (Err NoMemory) = Unit {0}
 
+-- why words are wrong behind these statements
+abbrev pub Blamed : List Placed → List Word → ℕ → Flaw → Type 0
+Blamed ps words line (Expected at what) = (at ≡ line) × Unexpected ps words
+Blamed ps words line (SlotTaken at slot) = (at ≡ line) × TakesSlot slot ps words
+Blamed ps words line (Missing what) = ⊥
+Blamed ps words line NoMemory = ⊥
+
 -- the plan of the statements, or what they never say
 abbrev pub Finishes : List Placed → Result PlanText Flaw → Type 0
 Finishes ps (Ok plan) = PlanOf ps plan

@@ -1,12 +1,13 @@
 -- What the text of a plan file says, or the first thing that is wrong with it. Assumes nothing.
-use Rattle.std.specs.Prelude.{◌≡◌, ℕ, ◌+◌, ◌<◌, ◌⊎◌, List, [], length, Some, None, Ok, Err, vec_items, codes, Result, ◌≢◌}
+use Rattle.std.specs.Prelude.{◌≡◌, ℕ, ◌+◌, ◌<◌, ◌⊎◌, List, [], ◌∷◌, length, Some, None, Ok, Err, vec_items, codes, Result, ◌≢◌}
 use Rattle.std.specs.Str.Lines.{IsFirstLine}
 use Rattle.plans.specs.declared.plan.Flaw.{Flaw}
 use Rattle.plans.specs.declared.plan.Flaw.TheVariants.{Expected, SlotTaken, Missing, NoMemory}
 use Rattle.plans.specs.declared.plan.PlanText.{PlanText}
 use Rattle.plans.specs.Entries.{Placed, cores_in, order_in, last_said, entries, told_entries, HasSlot, OpenTask, Fitting}
 use Rattle.plans.specs.Lines.{LinesTo, Stated, Worded}
-use Rattle.plans.specs.Statements.{Word, ToldTable, Said, cores, order, task, node, arc, Makes}
+use Rattle.plans.specs.Numerals.{Counts}
+use Rattle.plans.specs.Statements.{Word, Said, cores, order, task, node, arc, Makes}
 
 -- the text up to the rest: its lines, and statements that may stand one behind another
 pub record ReadTo (text rest : List ℕ) (number : ℕ) (ps : List Placed) : Type 0 where
@@ -37,14 +38,23 @@ OfTable (task name slot t) = ⊥
 OfTable (node n) = Unit {0}
 OfTable (arc a) = Unit {0}
 
--- some words, and they make no statement; or a node or an arc, and no task is open
-abbrev pub Unexpected : List Placed → List Word → Type 0
-Unexpected ps words =
-    ((words ≢ []) × ((s : Said) → Makes words s → ⊥)) ⊎ ((s : Said) × Makes words s × OfTable s × (OpenTask ps → ⊥))
+-- the words begin a task in this slot, whatever follows
+pub record NamesSlot (words : List Word) (slot : ℕ) : Type 0 where
+  pub name : Word
+  pub number : Word
+  pub rest : List Word
+  pub words_are : words ≡ codes "task" ∷ name ∷ codes "slot" ∷ number ∷ rest
+  pub slot_said : Counts 15 number slot
 
 -- a task whose slot is taken
 abbrev pub TakesSlot : ℕ → List Placed → List Word → Type 0
-TakesSlot slot ps words = (name : Word) × (t : ToldTable) × Makes words (task name slot t) × HasSlot slot (entries ps)
+TakesSlot slot ps words = NamesSlot words slot × HasSlot slot (entries ps)
+
+-- some words that make no statement, nor begin a task whose slot is taken; or a node or an arc, and no task is open
+abbrev pub Unexpected : List Placed → List Word → Type 0
+Unexpected ps words =
+    ((words ≢ []) × ((s : Said) → Makes words s → ⊥) × ((slot : ℕ) → TakesSlot slot ps words → ⊥))
+    ⊎ ((s : Said) × Makes words s × OfTable s × (OpenTask ps → ⊥))
 
 -- all is well before the line of this number, and its words are wrong
 pub record WrongAt (text : List ℕ) (number : ℕ) (Wrong : List Placed → List Word → Type 0) : Type 0 where

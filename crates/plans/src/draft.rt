@@ -1,12 +1,12 @@
 // A plan while its statements come.
-ghost use Rattle.std.specs.Prelude.{◌≡◌, List, [], ◌∷◌, ◌++◌, MatchBool, MatchResult};
-ghost use Rattle.plans.specs.Drafts.{Drafted, Closed, OutOfMemory, Advances, Finishes, ReadsLine};
+ghost use Rattle.std.specs.Prelude.{◌≡◌, List, [], ◌∷◌, ◌++◌, MatchBool, MatchResult, ◌≢◌};
+ghost use Rattle.plans.specs.Drafts.{Drafted, Closed, OutOfMemory, Advances, Blamed, Finishes, ReadsLine};
 ghost use Rattle.plans.specs.Entries.{Placed, told_entries, entries as entries_of, HasSlot};
-ghost use Rattle.plans.specs.Statements.{meaning, told_table, timed as timed_table, filed as filed_table, task as task_said, node as node_said, arc as arc_said};
+ghost use Rattle.plans.specs.Statements.{Said, Makes, texts, meaning, told_table, timed as timed_table, filed as filed_table, task as task_said, node as node_said, arc as arc_said};
 
 use crate::plan::{Entry, Flaw, PlanText, Precedence, Source};
 use crate::records::{push_arc, push_node, push_task};
-use crate::statement::{Origin, Statement, statement_of};
+use crate::statement::{Origin, Statement, slot_named, statement_of};
 use crate::words::words_of;
 use std::alloc::Global;
 use table::records::{Arc, Node, Timing};
@@ -180,6 +180,49 @@ impl<'a> Draft<'a> {
         }
     }
 
+    // Whether a task so far has the slot.
+    fn has_slot(&self, slot: u8) -> bool
+        ensures { (ps : List Placed) → Drafted self.now ps → MatchBool result (HasSlot slot (entries_of ps)) (HasSlot slot (entries_of ps) → ⊥) }
+    {
+        if is_taken(self.entries.as_slice(), slot) {
+            return true;
+        }
+        match self.head {
+            Some(head) => head.slot == slot,
+            None => false,
+        }
+    }
+
+    // What was expected: a task, where the words begin a node or an arc and no task is open.
+    fn expected(&self, words: &[&'a str], what: &'static str) -> &'static str {
+        if self.head.is_some() {
+            return what;
+        }
+        let [first, ..] = words else {
+            return what;
+        };
+        match *first {
+            "node" => "a task with a period and a deadline before its nodes",
+            "arc" => "a task with a period and a deadline before its arcs",
+            _ => what,
+        }
+    }
+
+    // What is wrong with words that make no statement.
+    fn blame(&self, words: &[&'a str], line: usize, what: &'static str) -> Flaw
+        ensures { (ps : List Placed) → Drafted self.now ps → (texts words.now ≢ []) → ((s : Said) → Makes (texts words.now) s → ⊥) → Blamed ps (texts words.now) line result }
+    {
+        let what = self.expected(words, what);
+        let Some(slot) = slot_named(words) else {
+            return Flaw::Expected { line, what };
+        };
+        if self.has_slot(slot) {
+            Flaw::SlotTaken { line, slot }
+        } else {
+            Flaw::Expected { line, what }
+        }
+    }
+
     // Takes in a line: nothing where it has no words, or its statement.
     pub(crate) fn line(&mut self, line: &'a str, number: usize) -> Result<(), Flaw>
         ensures { (ps : List Placed) → Drafted self.old ps → ReadsLine ps line.now number self.new result }
@@ -193,7 +236,7 @@ impl<'a> Draft<'a> {
         }
         match statement_of(words.as_slice()) {
             Ok(statement) => self.take(statement, number),
-            Err(what) => Err(Flaw::Expected { line: number, what }),
+            Err(what) => Err(self.blame(words.as_slice(), number, what)),
         }
     }
 }

@@ -1,5 +1,6 @@
 // The statements of a plan, one to a line of words.
 ghost use Rattle.std.specs.Prelude.{◌∷◌, codes};
+ghost use Rattle.plans.specs.Parsed.{NamesSlot};
 ghost use Rattle.plans.specs.Statements.{texts, told_table, Heard, Found, ReadAs, BranchSaid, RegionSaid, FileSaid, TimesSaid, TableSaid, Sits, Closes, NodeSaid};
 
 use crate::numerals::{byte_in, number_in};
@@ -210,6 +211,22 @@ fn arc_statement<'a>(words: &[&'a str]) -> Result<Statement<'a>, &'static str>
         return Err("the numbers of two nodes");
     };
     Ok(Statement::OfArc(Arc { from, to }))
+}
+
+// The slot of the task that the words begin, where they begin one.
+pub(crate) fn slot_named(words: &[&str]) -> Option<u8>
+    ensures { Found (NamesSlot (texts words.now)) result }
+{
+    let [first, _, at, number, ..] = words else {
+        return None;
+    };
+    if *first != "task" {
+        return None;
+    }
+    if *at != "slot" {
+        return None;
+    }
+    byte_in(number, 15)
 }
 
 // The statement that the words of a line make; or what was expected.

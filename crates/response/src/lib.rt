@@ -6,7 +6,7 @@ ghost use Rattle.response.specs.Example.{FlashesPlanned, FlashesRun};
 
 // The jobs of every lawful graph keep the laws that the timing argument asks of jobs, and are told to have ended just when they have.
 pub fn graphs_keep_laws() -> u8
-    ensures { (GraphsKeepLaws) × (EndsDecided) }
+    ensures { GraphsKeepLaws × EndsDecided }
 {
     0
 }
@@ -21,7 +21,7 @@ pub fn plans_respond() -> u8
 
 // Three tasks on two cores meet what the theorem assumes, and have a run in which a job that had to wait ends exactly at its bound.
 pub fn example_runs() -> u8
-    ensures { (FlashesPlanned) × (FlashesRun) }
+    ensures { FlashesPlanned × FlashesRun }
 {
     0
 }

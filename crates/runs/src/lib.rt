@@ -7,7 +7,7 @@ ghost use Rattle.runs.specs.Example.{ExampleBounded, ExampleRuns};
 
 // What the jobs of one task use of the cores in a window, all of them and those that go ahead of another job.
 pub fn window_holds() -> u8
-    ensures { (WindowBounded) × (AheadBounded) }
+    ensures { WindowBounded × AheadBounded }
 {
     0
 }
@@ -22,7 +22,7 @@ pub fn response_holds<S, O>() -> u8
 
 // Two tasks on two cores meet what the theorem assumes, so it holds of them, and have a run in which each job ends exactly at its bound.
 pub fn example_holds() -> u8
-    ensures { (ExampleBounded) × (ExampleRuns) }
+    ensures { ExampleBounded × ExampleRuns }
 {
     0
 }

@@ -58,11 +58,11 @@ same_role (Closing a) Plain e f = absurd (omega arith)
 same_role (Closing a) Opening e f = absurd (omega arith)
 same_role (Closing a) (Closing b) e f = ap Closing f
 
-same_region_lem : (p q : Region) → HomeTold p → HomeTold q → home_byte p ≡ home_byte q → branch_byte p ≡ branch_byte q → p ≡ q
-same_region_lem Top Top hp hq e f = refl
-same_region_lem Top (Branch h b) hp hq e f = absurd (omega arith)
-same_region_lem (Branch h b) Top hp hq e f = absurd (omega arith)
-same_region_lem (Branch h b) (Branch i c) hp hq e f = cc
+same_region : (p q : Region) → HomeTold p → HomeTold q → home_byte p ≡ home_byte q → branch_byte p ≡ branch_byte q → p ≡ q
+same_region Top Top hp hq e f = refl
+same_region Top (Branch h b) hp hq e f = absurd (omega arith)
+same_region (Branch h b) Top hp hq e f = absurd (omega arith)
+same_region (Branch h b) (Branch i c) hp hq e f = cc
 
 at_place : (i : ℕ) (x y : List ℕ) → x ≡ y → get_or x i 0 ≡ get_or y i 0
 at_place i x y e = ap (λ (l : List ℕ). get_or l i 0) e
@@ -96,7 +96,7 @@ encodes_one (node t) (node q) u v hr hq e =
     let y = encode (node q) ++ v in (
       ap node (same_node t q
           (same_role t.role q.role (at_place 4 x y e) (at_place 7 x y e))
-          (same_region_lem t.region q.region hr.0 hq.0 (at_place 5 x y e) (at_place 6 x y e))
+          (same_region t.region q.region hr.0 hq.0 (at_place 5 x y e) (at_place 6 x y e))
           (same_number t.time q.time hr.1 hq.1 (at_place 8 x y e) (at_place 9 x y e) (at_place 10 x y e) (at_place 11 x y e))),
       ap (λ (l : List ℕ). drop 12 l) e,
     )

@@ -1,7 +1,7 @@
 // One first and one last: the ends of regions.
 ghost use Rattle.std.specs.Prelude.{◌≤◌, length};
 ghost use Rattle.task.specs.Deciding.{BeginsOutside, EndsOutside, FirstNode, LastNode, Within, OneOfEach};
-ghost use Rattle.task.specs.Graph.{Ranged, IsNode, region as lies_at_lem};
+ghost use Rattle.task.specs.Graph.{Ranged, IsNode, region as region_at};
 ghost use Rattle.sets.specs.Sets.{JustOne, Marks};
 ghost use Rattle.task.specs.Shape.{HasEndsAt};
 ghost use Rattle.sets.specs.Tests.{Says, Tried};
@@ -92,7 +92,7 @@ fn has_one(nodes: &[Node], region: Region, set: BitSet) -> bool
 // Whether just one node of either set lies in the region of v.
 fn has_one_of_each(nodes: &[Node], firsts: BitSet, lasts: BitSet, v: usize) -> bool
     requires { length nodes.now ≤ 64 }
-    ensures { Says result (OneOfEach nodes.now firsts lasts (lies_at_lem nodes.now v)) }
+    ensures { Says result (OneOfEach nodes.now firsts lasts (region_at nodes.now v)) }
 {
     has_one(nodes, region_of(nodes, v), firsts) && has_one(nodes, region_of(nodes, v), lasts)
 }

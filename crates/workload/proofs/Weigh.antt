@@ -11,11 +11,11 @@ use Rattle.task.specs.Graph.{region, time, IsNode, InRegion}
 use Rattle.task.proofs.Apart.{top_not_branch, branch_not_top, one_branch, same_home, same_branch}
 use Rattle.workload.proofs.Sums.{best_of}
 
-abbrev pub same_region_lem : Region → Region → Bool
-same_region_lem Top Top = true
-same_region_lem Top (Branch h b) = false
-same_region_lem (Branch g a) Top = false
-same_region_lem (Branch g a) (Branch h b) = eqb g h && eqb a b
+abbrev pub same_region : Region → Region → Bool
+same_region Top Top = true
+same_region Top (Branch h b) = false
+same_region (Branch g a) Top = false
+same_region (Branch g a) (Branch h b) = eqb g h && eqb a b
 
 pub region_or_other : (q r : Region) → (q ≡ r) ⊎ (q ≢ r)
 region_or_other Top Top = inl refl
@@ -28,14 +28,14 @@ region_or_other (Branch g a) (Branch h b) = go (cases_eq g h) (cases_eq a b)
     go (inl e) (inr d) = inr (λ s. d (same_branch g a h b s))
     go (inr d) f = inr (λ s. d (same_home g a h b s))
 
-same_is_true : (q r : Region) → q ≡ r → same_region_lem q r ≡ true
-same_is_true q r e = subst (λ (x : Region). same_region_lem q x ≡ true) e (itself q)
+same_is_true : (q r : Region) → q ≡ r → same_region q r ≡ true
+same_is_true q r e = subst (λ (x : Region). same_region q x ≡ true) e (itself q)
   where
-    itself : (x : Region) → same_region_lem x x ≡ true
+    itself : (x : Region) → same_region x x ≡ true
     itself Top = refl
     itself (Branch h b) = grind (arith, nat_tests)
 
-other_is_false : (q r : Region) → q ≢ r → same_region_lem q r ≡ false
+other_is_false : (q r : Region) → q ≢ r → same_region q r ≡ false
 other_is_false Top Top d = absurd (d refl)
 other_is_false Top (Branch h b) d = refl
 other_is_false (Branch g a) Top d = refl
@@ -50,7 +50,7 @@ other_is_false (Branch g a) (Branch h b) d = go (cases_eq g h) (cases_eq a b)
 abbrev pub weight : ℕ → List Node → Region → ℕ
 weight i [] r = 0
 weight i (node ∷ later) r =
-    weight (suc i) later r + cond (same_region_lem node.region r) (node.time + best_of 8 (λ b. weight (suc i) later (Branch i b))) 0
+    weight (suc i) later r + cond (same_region node.region r) (node.time + best_of 8 (λ b. weight (suc i) later (Branch i b))) 0
 
 -- over the nodes from i on
 abbrev pub weight_from : List Node → ℕ → Region → ℕ
@@ -64,7 +64,7 @@ abbrev pub gain : List Node → ℕ → ℕ
 gain ns i = time ns i + best_of 8 (branch_weight ns (suc i) i)
 
 module _ (ns : List Node) where
-  weight_step : (i : ℕ) (r : Region) → IsNode ns i → weight_from ns i r ≡ weight_from ns (suc i) r + cond (same_region_lem (region ns i) r) (gain ns i) 0
+  weight_step : (i : ℕ) (r : Region) → IsNode ns i → weight_from ns i r ≡ weight_from ns (suc i) r + cond (same_region (region ns i) r) (gain ns i) 0
   weight_step i r n = ap (λ (l : List Node). weight i l r) (drop-cons ns i no_node n)
 
   pub weight_own : (i : ℕ) (r : Region) → IsNode ns i → region ns i ≡ r → weight_from ns i r ≡ weight_from ns (suc i) r + gain ns i

@@ -1,8 +1,9 @@
-use Rattle.std.proofs.Common.{List, vec_items, vec_len, sym, refl, subst, inl}
+use Rattle.std.proofs.Common.{List, vec_items, vec_len, sym, ap, ◌∙◌, subst, inl}
+use Rattle.plans.specs.Drafts.{Blamed}
 use Rattle.plans.specs.Lines.{Worded}
 use Rattle.plans.specs.Statements.{Word, texts, meaning, Makes}
 use Rattle.plans.proofs.Spelled.{Slice}
-use Rattle.plans.proofs.Texts.{no_words, some_words, line_advances}
+use Rattle.plans.proofs.Texts.{no_words, some_words, line_advances, line_blamed}
 use Rattle.plans.proofs.draft.Draft.line.Goals as goal
 
 pub returns-then-is_empty : goal.returns-then-is_empty
@@ -22,14 +23,11 @@ returns-in-Ok-statement_of c = λ ps k.
 
 pub returns : goal.returns
 returns c = λ ps k.
-    let words = c.in-Ok.words in (
-      refl,
-      (
-        texts (vec_items words),
-        c.in-Ok.ensures,
-        inl (
-          some_words (vec_items words) (vec_len words) words.ok.0 c.if-is_empty.ensures,
-          λ s m. c.in-Err-statement_of.ensures s (subst (λ (ws : Slice). Makes (texts ws) s) (sym c.as_slice.ensures.value) m),
-        ),
-      ),
-    )
+    let words = c.in-Ok.words in
+    let same = ap texts c.as_slice-in-Err-statement_of.ensures.value in
+    line_blamed ps c.args.line.now c.args.number (texts (vec_items words)) c.args.self.now c.blame.result c.in-Ok.ensures
+    (subst (λ (ws : List Word). Blamed ps ws c.args.number c.blame.result) same (
+    c.blame.ensures ps k
+    (λ e. some_words (vec_items words) (vec_len words) words.ok.0 c.if-is_empty.ensures (sym same ∙ e))
+    (λ s m. c.in-Err-statement_of.ensures s (subst (λ (ws : Slice). Makes (texts ws) s) (c.as_slice-in-Err-statement_of.ensures.value ∙ sym c.as_slice.ensures.value) m))
+    ))
