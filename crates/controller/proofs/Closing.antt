@@ -265,10 +265,10 @@ module _ (o : Meaning) (laws : LawfulOrder o) (t u : Tables) (b : ℕ → Line) 
 
   -- ---- either way
 
-  abbrev ended_by : Option (List ℕ) → Type 0
-  ended_by bs = ((s : ℕ) → s < 16 → AllByRecursion EndedInTime (b' s).ended) × EpochBy o (record { plan = t.plan; tasks = t.tasks; jobs = u.jobs; waited = map one_more t.waited; bounds = bs }) b' bs
+  abbrev EndedBy : Option (List ℕ) → Type 0
+  EndedBy bs = ((s : ℕ) → s < 16 → AllByRecursion EndedInTime (b' s).ended) × EpochBy o (record { plan = t.plan; tasks = t.tasks; jobs = u.jobs; waited = map one_more t.waited; bounds = bs }) b' bs
 
-  closed_by : (bs : Option (List ℕ)) → EpochBy o (parts t) b bs → (n : ℕ) → PlacedBy o t.tasks t.jobs (cores t) spots n → ended_by bs
+  closed_by : (bs : Option (List ℕ)) → EpochBy o (parts t) b bs → (n : ℕ) → PlacedBy o t.tasks t.jobs (cores t) spots n → EndedBy bs
   closed_by None rest n placed = (rest_ended rest, resting rest)
   closed_by (Some R) running n placed = (λ s l. (closed_slot R running n placed s l).ended, continues R running n placed)
 

@@ -24,13 +24,13 @@ joined : (a b c : ℕ) → (pos b -ℤ pos a) +ℤ (pos c -ℤ pos b) ≡ pos c 
 joined a b c = omega (arith, ints)
 
 module _ (o : Meaning) (laws : LawfulOrder o) (tasks : List (Option Task)) (jobs : List (Option Job)) where
-  abbrev ready : ℕ → ℕ → Type 0
-  ready = ReadyIn tasks jobs
+  abbrev IsReady : ℕ → ℕ → Type 0
+  IsReady = ReadyIn tasks jobs
 
-  abbrev ahead : ℕ → ℕ → Type 0
-  ahead = GoesAhead o tasks jobs
+  abbrev IsAhead : ℕ → ℕ → Type 0
+  IsAhead = GoesAhead o tasks jobs
 
-  of_two : (i k : ℕ) → HasReady ready i → HasReady ready k → ahead i k ⊎ ahead k i
+  of_two : (i k : ℕ) → HasReady IsReady i → HasReady IsReady k → IsAhead i k ⊎ IsAhead k i
   of_two i k x y = elim (cases_eq i k) [
     | inl e ↦ inl (x.1.slot_below, y.1.slot_below, inl e)
     | inr n ↦ go n (laws.total (party i x.1.task) (party k y.1.task) (lawful_party i x.1.task x.1.slot_below) (lawful_party k y.1.task y.1.slot_below) n
@@ -38,7 +38,7 @@ module _ (o : Meaning) (laws : LawfulOrder o) (tasks : List (Option Task)) (jobs
   ]
     where
       go : (i ≡ k → ⊥) → (o.goes (party i x.1.task) (party k y.1.task) (pos y.1.job.age -ℤ pos x.1.job.age) ≡ true)
-          ⊎ (o.goes (party k y.1.task) (party i x.1.task) (neg_ℤ (pos y.1.job.age -ℤ pos x.1.job.age)) ≡ true) → ahead i k ⊎ ahead k i
+          ⊎ (o.goes (party k y.1.task) (party i x.1.task) (neg_ℤ (pos y.1.job.age -ℤ pos x.1.job.age)) ≡ true) → IsAhead i k ⊎ IsAhead k i
       go n (inl g) = inl (
         x.1.slot_below,
         y.1.slot_below,
@@ -92,7 +92,7 @@ module _ (o : Meaning) (laws : LawfulOrder o) (tasks : List (Option Task)) (jobs
           subst (λ (j : Job). o.goes (party i f.first_task) (party k g.first_task) (pos j.age -ℤ pos f.first_job.age) ≡ true) (one_some f.other_open g.first_open)
           (subst (λ (τ : Task). o.goes (party i f.first_task) (party k τ) (pos f.other_job.age -ℤ pos f.first_job.age) ≡ true) (one_some f.other_held g.first_held) f.goes)
 
-  passed_on : (i k l : ℕ) → ahead i k → ahead k l → ahead i l
+  passed_on : (i k l : ℕ) → IsAhead i k → IsAhead k l → IsAhead i l
   passed_on i k l x y = (x.0, y.1, go (cases_eq i l) (cases_eq i k) (cases_eq k l) x.2 y.2)
     where
       go : (i ≡ l) ⊎ (i ≡ l → ⊥) → (i ≡ k) ⊎ (i ≡ k → ⊥) → (k ≡ l) ⊎ (k ≡ l → ⊥) → (i ≡ k) ⊎ GoesFirst o tasks jobs i k → (k ≡ l) ⊎ GoesFirst o tasks jobs k l
@@ -104,5 +104,5 @@ module _ (o : Meaning) (laws : LawfulOrder o) (tasks : List (Option Task)) (jobs
       go (inr n) (inr m) (inr q) (inr f) (inl e) = absurd (q e)
       go (inr n) (inr m) (inr q) (inr f) (inr g) = inr (carried i k l x.0 x.1 y.1 m q n f g)
 
-  pub in_order : Orderly ready ahead
+  pub in_order : Orderly IsReady IsAhead
   in_order = record { total = of_two; passes_on = λ i k l _ _ _ x y. passed_on i k l x y }
