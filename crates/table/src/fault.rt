@@ -5,7 +5,7 @@ ghost use Rattle.table.specs.Numbers.{fault_number, fault_added};
 use crate::records::Kind;
 
 // A fault in the layout of what stands in a table after its sound records.
-#[derive(Clone, Copy, Drop)]
+#[derive(Clone, Copy, Debug, PartialEq, Eq, Drop)]
 pub enum LayoutFault {
     // the table ends where a record of this kind should begin
     Missing { kind: Kind },
@@ -24,7 +24,7 @@ pub enum LayoutFault {
 }
 
 // The fields of records.
-#[derive(Clone, Copy, Drop)]
+#[derive(Clone, Copy, Debug, PartialEq, Eq, Drop)]
 pub enum Field {
     Period,
     Deadline,
@@ -38,14 +38,14 @@ pub enum Field {
 }
 
 // A field with a value out of its range.
-#[derive(Clone, Copy, Drop)]
+#[derive(Clone, Copy, Debug, PartialEq, Eq, Drop)]
 pub struct Misfit {
     pub field: Field,
     pub value: u32,
 }
 
 // Why a table is refused, with the offset of the record at which it stops being sound.
-#[derive(Clone, Copy, Drop)]
+#[derive(Clone, Copy, Debug, PartialEq, Eq, Drop)]
 pub enum Fault {
     Layout { offset: usize, fault: LayoutFault },
     Range { offset: usize, misfit: Misfit },

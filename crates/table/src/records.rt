@@ -1,7 +1,7 @@
 // What a task table holds: one task's timing, its nodes and its arcs.
 
 // The kinds of records in a table.
-#[derive(Clone, Copy, Drop)]
+#[derive(Clone, Copy, Debug, PartialEq, Eq, Drop)]
 pub enum Kind {
     OfTask,
     OfNode,
@@ -10,7 +10,7 @@ pub enum Kind {
 
 // A node's part in the branching of its task. An opening picks one of its branches when it ends; the closing whose
 // mate it is waits for that branch. Any other node is plain.
-#[derive(Clone, Copy, Drop)]
+#[derive(Clone, Copy, Debug, PartialEq, Eq, Drop)]
 pub enum Role {
     Plain,
     Opening,
@@ -18,14 +18,14 @@ pub enum Role {
 }
 
 // Where a node lies: at the top of its task, or in a branch of the opening that is its home.
-#[derive(Clone, Copy, Drop)]
+#[derive(Clone, Copy, Debug, PartialEq, Eq, Drop)]
 pub enum Region {
     Top,
     Branch { home: u8, branch: u8 },
 }
 
 // One piece of a task's work. Its time is the most ticks that it may run.
-#[derive(Clone, Copy, Drop)]
+#[derive(Clone, Copy, Debug, PartialEq, Eq, Drop)]
 pub struct Node {
     pub role: Role,
     pub region: Region,
@@ -33,35 +33,35 @@ pub struct Node {
 }
 
 // The node `to` waits for the node `from`. Nodes go by their numbers, from 0 as they come in the table.
-#[derive(Clone, Copy, Drop)]
+#[derive(Clone, Copy, Debug, PartialEq, Eq, Drop)]
 pub struct Arc {
     pub from: u8,
     pub to: u8,
 }
 
 // How many ticks apart a task's jobs are released at least, and how many ticks each may take, both at least 1.
-#[derive(Clone, Copy, Drop)]
+#[derive(Clone, Copy, Debug, PartialEq, Eq, Drop)]
 pub struct Timing {
     pub period: u32,
     pub deadline: u32,
 }
 
 // The first `len` of the items are a task's nodes.
-#[derive(Clone, Copy, Drop)]
+#[derive(Clone, Copy, Debug, PartialEq, Eq, Drop)]
 pub struct NodeList {
     pub items: [Node; 64],
     pub len: usize,
 }
 
 // The first `len` of the items are a task's arcs.
-#[derive(Clone, Copy, Drop)]
+#[derive(Clone, Copy, Debug, PartialEq, Eq, Drop)]
 pub struct ArcList {
     pub items: [Arc; 256],
     pub len: usize,
 }
 
 // The records of a table.
-#[derive(Clone, Copy, Drop)]
+#[derive(Clone, Copy, Debug, PartialEq, Eq, Drop)]
 pub struct Table {
     pub timing: Timing,
     pub nodes: NodeList,
