@@ -7,8 +7,12 @@ ghost use Rattle.order.specs.Laws.{Orderly};
 ghost use Rattle.order.specs.Orders.{smaller_slot, slot_cap, any_job, no_cap};
 ghost use Rattle.std.proofs.Common.{rules};
 
+mod slot;
+
+pub use slot::Slot;
+
 // What an order may know of a task.
-#[derive(Clone, Copy, Drop)]
+#[derive(Clone, Copy, Debug, PartialEq, Eq, Drop)]
 pub struct Party {
     pub slot: u8,
     pub period: u32,
@@ -31,7 +35,7 @@ pub trait Order {
 }
 
 // The smaller slot goes ahead.
-#[derive(Clone, Copy, Drop)]
+#[derive(Clone, Copy, Debug, PartialEq, Eq, Drop)]
 pub struct Fixed;
 
 impl Order for Fixed {
@@ -51,7 +55,7 @@ impl Order for Fixed {
 }
 
 // Every job goes ahead of every other.
-#[derive(Clone, Copy, Drop)]
+#[derive(Clone, Copy, Debug, PartialEq, Eq, Drop)]
 pub struct Open;
 
 impl Order for Open {
