@@ -7,8 +7,8 @@ use Rattle.task.specs.Held.{nodes_of, arcs_of}
 use Rattle.task.proofs.Recovered.{lawful_task}
 use Rattle.bounds.specs.declared.plan.Demand.{Demand}
 use Rattle.bounds.specs.Equation.{bound, held}
-use Rattle.held_jobs.specs.Job.{JobEnded, Outcome, after}
-use Rattle.held_jobs.proofs.Ended.{t_job_ended}
+use Rattle.jobs.specs.Job.{JobEnded, Outcome, after}
+use Rattle.jobs.proofs.Ended.{t_job_ended}
 use Rattle.runs.specs.Jobs.{Turn}
 use Rattle.runs.specs.Run.{Done, Slot, idle, busy, State, turns_for, settle, work, tick, Run, ticked}
 use Rattle.runs.specs.Statements.{TimelySlot}

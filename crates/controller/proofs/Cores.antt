@@ -3,7 +3,7 @@ use Rattle.std.proofs.Common.{◌≡◌, ℕ, zero, suc, ◌+◌, ◌<◌, ◌�
 use Rattle.std.proofs.lemmas.Bool.{cases_eq}
 use Rattle.std.proofs.lemmas.Bool.Decides.{nat_tests}
 use Rattle.std.specs.List.{AllByRecursion}
-use Rattle.held_jobs.specs.Job.{Outcome}
+use Rattle.jobs.specs.Job.{Outcome}
 use Rattle.runs.specs.Counts.{bit}
 use Rattle.runs.specs.Jobs.{Turn}
 use Rattle.runs.specs.Run.{Place, turns_for, places_of}

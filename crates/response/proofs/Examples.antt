@@ -8,7 +8,7 @@ use Rattle.bounds.specs.declared.plan.Demand.{Demand}
 use Rattle.bounds.specs.Equation.{sum_to, held, Solves}
 use Rattle.bounds.proofs.Cases.{fixed}
 use Rattle.bounds.proofs.Climb.{by_climb}
-use Rattle.held_jobs.specs.Job.{Outcome}
+use Rattle.jobs.specs.Job.{Outcome}
 use Rattle.runs.specs.Counts.{bit}
 use Rattle.runs.specs.Run.{State, start, release, Place, places_of, ReadyAt, GoesAhead, MayTick, tick, begun, released, ticked}
 use Rattle.response.specs.System.{there}

@@ -8,8 +8,8 @@ use Rattle.table.specs.declared.records.Table.{Table}
 use Rattle.task.specs.Held.{nodes_of, arcs_of}
 use Rattle.bounds.specs.declared.plan.Plan.{Plan}
 use Rattle.bounds.specs.Equation.{Caps}
-use Rattle.held_jobs.specs.Job.{JobEnded, Outcome, idle as did_not_run, after, Allowed}
-use Rattle.held_jobs.proofs.Ended.{t_job_ended}
+use Rattle.jobs.specs.Job.{JobEnded, Outcome, idle as did_not_run, after, Allowed}
+use Rattle.jobs.proofs.Ended.{t_job_ended}
 use Rattle.runs.specs.Jobs.{Turn, turns_of}
 use Rattle.runs.specs.Run.{Done, Slot, idle, busy, State, settle, work, Place, turns_for, places_of, MayHaveAt, ReadyAt, GoesAhead, MayTick}
 use Rattle.runs.specs.System.{Held}

@@ -8,9 +8,9 @@ use Rattle.table.specs.declared.records.Arc.{Arc}
 use Rattle.table.specs.declared.records.Node.{Node}
 use Rattle.workload.specs.Measures.{sum_below}
 use Rattle.workload.proofs.Sums.{sum_below_same, sum_below_one}
-use Rattle.held_jobs.specs.declared.node_state.NodeState.{NodeState}
-use Rattle.held_jobs.specs.Job.{Outcome, idle, goes_on, ends_with, after, Allowed, ran_now}
-use Rattle.held_jobs.proofs.Tick.{goes_on_not_idle, ends_not_idle}
+use Rattle.jobs.specs.declared.node_state.NodeState.{NodeState}
+use Rattle.jobs.specs.Job.{Outcome, idle, goes_on, ends_with, after, Allowed, ran_now}
+use Rattle.jobs.proofs.Tick.{goes_on_not_idle, ends_not_idle}
 use Rattle.runs.specs.Counts.{bit}
 use Rattle.runs.specs.Jobs.{Turn, turns_of, MayHave}
 use Rattle.response.specs.Jobs.{JobState, outcome_in, advance, graph_jobs}

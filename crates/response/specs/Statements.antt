@@ -12,7 +12,7 @@ use Rattle.admission.specs.Demands.{Demands}
 use Rattle.bounds.specs.declared.plan.Demand.{Demand}
 use Rattle.bounds.specs.declared.plan.Plan.{Plan}
 use Rattle.bounds.specs.Equation.{Caps, held, Solves}
-use Rattle.held_jobs.specs.Job.{JobEnded}
+use Rattle.jobs.specs.Job.{JobEnded}
 use Rattle.runs.specs.Jobs.{JobLaws}
 use Rattle.runs.specs.Run.{State, start, Run}
 use Rattle.runs.specs.Statements.{Timely, NoOverlap, Ends}

@@ -6,10 +6,10 @@ use Rattle.table.specs.declared.records.Region.TheVariants.{Top}
 use Rattle.task.specs.Graph.{InRegion, Last}
 use Rattle.task.proofs.Computed.{Test, t_like, t_and, t_some, yes_test, no_test}
 use Rattle.task.proofs.Judged.{t_in_region, t_last}
-use Rattle.held_jobs.specs.declared.node_state.NodeState.{NodeState}
-use Rattle.held_jobs.specs.declared.node_state.NodeState.TheVariants.{Untouched, Running, Ended}
-use Rattle.held_jobs.specs.Job.{state, IsEnded, HasEnded, JobEnded}
-use Rattle.held_jobs.proofs.Entering.{untouched_not_ended, running_not_ended}
+use Rattle.jobs.specs.declared.node_state.NodeState.{NodeState}
+use Rattle.jobs.specs.declared.node_state.NodeState.TheVariants.{Untouched, Running, Ended}
+use Rattle.jobs.specs.Job.{state, IsEnded, HasEnded, JobEnded}
+use Rattle.jobs.proofs.Entering.{untouched_not_ended, running_not_ended}
 
 abbrev pub t_node_ended : (s : NodeState) → Test (IsEnded s)
 t_node_ended Untouched = no_test (λ e. untouched_not_ended e.0 e.1)
