@@ -10,10 +10,10 @@ use Rattle.bounds.specs.declared.plan.Plan.{Plan}
 use Rattle.bounds.specs.Equation.{Caps}
 use Rattle.held_jobs.specs.Job.{JobEnded, Outcome, idle as did_not_run, after, Allowed}
 use Rattle.held_jobs.proofs.Ended.{t_job_ended}
-use Rattle.runs.specs.Jobs.{Turn, turns_of}
-use Rattle.runs.specs.Run.{Done, Slot, idle, busy, State, settle, work, Place, turns_for, places_of, MayHaveAt, ReadyAt, GoesAhead, MayTick}
-use Rattle.runs.specs.System.{Held}
-use Rattle.runs.proofs.Places.{turns_are_places, places_by_turns}
+use Rattle.timing.specs.Jobs.{Turn, turns_of}
+use Rattle.timing.specs.Run.{Done, Slot, idle, busy, State, settle, work, Place, turns_for, places_of, MayHaveAt, ReadyAt, GoesAhead, MayTick}
+use Rattle.timing.specs.System.{Held}
+use Rattle.timing.proofs.Places.{turns_are_places, places_by_turns}
 use Rattle.response.specs.Jobs.{JobState, outcome_in, advance, graph_jobs}
 use Rattle.response.specs.System.{Goes, numbers_of, system_of}
 use Rattle.response.proofs.Laws.{true_ended, ended_true}

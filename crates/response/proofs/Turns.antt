@@ -11,8 +11,8 @@ use Rattle.workload.proofs.Sums.{sum_below_same, sum_below_one}
 use Rattle.held_jobs.specs.declared.node_state.NodeState.{NodeState}
 use Rattle.held_jobs.specs.Job.{Outcome, idle, goes_on, ends_with, after, Allowed, ran_now}
 use Rattle.held_jobs.proofs.Tick.{goes_on_not_idle, ends_not_idle}
-use Rattle.runs.specs.Counts.{bit}
-use Rattle.runs.specs.Jobs.{Turn, turns_of, MayHave}
+use Rattle.timing.specs.Counts.{bit}
+use Rattle.timing.specs.Jobs.{Turn, turns_of, MayHave}
 use Rattle.response.specs.Jobs.{JobState, outcome_in, advance, graph_jobs}
 
 -- ---- the outcome of a node
