@@ -5,6 +5,7 @@ use Rattle.std.specs.List.{AllByRecursion}
 use Rattle.timing.specs.Counts.{bit}
 use Rattle.timing.specs.Jobs.{Jobs, JobLaws, Turn, turns_of, MayHave, Fair}
 use Rattle.timing.proofs.Counting.{count_if_length}
+use Rattle.timing.proofs.Logs.{all_weaker}
 
 -- what holds of every turn's node holds of a node with a turn
 pub node_with_turn : {O : Type 0} (P : ℕ → Type 0) (ts : List (Turn O)) → AllByRecursion (λ t. P t.node) ts → (v : ℕ) → 1 ≤ turns_of v ts → P v
@@ -17,11 +18,7 @@ node_with_turn P (t ∷ ts) all v h = go (eqb v t.node) refl h (node_with_turn P
 
 -- a node with a turn is ready
 pub turn_ready : {O : Type 0} (J : Jobs O) (j : J.State) (ts : List (Turn O)) → Fair J j ts → (v : ℕ) → 1 ≤ turns_of v ts → J.Ready j v
-turn_ready {O} J j ts fair v h = node_with_turn (J.Ready j) ts (each ts fair.allowed) v h
-  where
-    each : (us : List (Turn O)) → AllByRecursion (MayHave J j) us → AllByRecursion (λ t. J.Ready j t.node) us
-    each [] all = tt
-    each (t ∷ us) all = (all.0.0, each us all.1)
+turn_ready J j ts fair = node_with_turn (J.Ready j) ts (all_weaker (MayHave J j) (λ t. J.Ready j t.node) (λ t h. h.0) ts fair.allowed)
 
 -- A chain to w that has kept up with the time t since the release at r, but for the core-ticks I that others used.
 abbrev pub KeptUp : {O : Type 0} (J : Jobs O) → ℕ → ℕ → ℕ → ℕ → J.State → ℕ → Type 0

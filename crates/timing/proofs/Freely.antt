@@ -1,13 +1,12 @@
 -- The theorem where outcomes are free, from the theorem at the same jobs with every outcome allowed.
-use Rattle.std.proofs.Common.{◌≡◌, ℕ, suc, ◌<◌, List, [], ◌∷◌, sym, refl, ap, subst}
-use mathlib.Core.Path.{fun_ext}
-use Rattle.std.specs.List.{AllByRecursion}
+use Rattle.std.proofs.Common.{ℕ, ◌<◌, List}
 use Rattle.timing.specs.Jobs.{Jobs, Turn, Fair, LawsIn, JobLaws}
 use Rattle.timing.specs.System.{System}
-use Rattle.timing.specs.Run.{Slot, idle, busy, State, start, release, Place, turns_for, ReadyAt, MayHaveAt, MayTick, work, tick, Run, begun, released, ticked}
+use Rattle.timing.specs.Run.{Slot, idle, busy, State, start, release, Place, ReadyAt, MayHaveAt, MayTick, Run, begun, released, ticked}
 use Rattle.timing.specs.Freely.{ReadyOnce, MayTickFreely, RunFreely, begun as begun_freely, released as released_freely, ticked as ticked_freely, RespondsFreely}
 use Rattle.timing.proofs.Chains.{turn_ready}
 use Rattle.timing.proofs.Invariant.{responds}
+use Rattle.timing.proofs.Logs.{all_weaker}
 
 -- ---- jobs
 
@@ -58,40 +57,25 @@ allowing_all y = record { plan = y.plan; Outcome = y.Outcome; jobs = λ k. allow
 abbrev seen : (y : System) → State y → State (allowing_all y)
 seen y s = record { now = s.now; slot = s.slot }
 
-tick_seen : (y : System) (cs : List (Place y.Outcome)) (s : State y) → seen y (tick y cs s) ≡ tick (allowing_all y) cs (seen y s)
-tick_seen y cs s = ap (λ (f : (k : ℕ) → Slot (y.jobs k).State). record { now = suc s.now; slot = f }) (fun_ext (λ k. same k (s.slot k)))
-  where
-    same : (k : ℕ) (x : Slot (y.jobs k).State) → work (y.jobs k) s.now (turns_for k cs) x ≡ work ((allowing_all y).jobs k) s.now (turns_for k cs) x
-    same k (idle past) = refl
-    same k (busy r sp j past) = refl
-
 may_seen : (y : System) (s : State y) (cs : List (Place y.Outcome)) → MayTickFreely y s cs → MayTick (allowing_all y) (seen y s) cs
 may_seen y s cs may =
     record {
-      allowed = each cs may.ready;
+      allowed =
+          all_weaker (λ c. (c.slot < y.plan.slots) × ReadyAt (y.jobs c.slot) c.turn.node (s.slot c.slot)) (λ c. (c.slot < y.plan.slots) × MayHaveAt ((allowing_all y).jobs c.slot) c.turn (s.slot c.slot))
+          (λ c h. (h.0, has c.slot c.turn (s.slot c.slot) h.1)) cs may.ready;
       once = may.once;
       few = may.few;
-      work_conserving = λ k w held ready. may.work_conserving k w held (known k w (s.slot k) ready);
+      work_conserving = may.work_conserving;
     }
   where
     has : (k : ℕ) (t : Turn y.Outcome) (x : Slot (y.jobs k).State) → ReadyAt (y.jobs k) t.node x → MayHaveAt ((allowing_all y).jobs k) t x
     has k t (idle past) ready = ready
     has k t (busy r sp j past) ready = (ready, tt)
 
-    known : (k w : ℕ) (x : Slot (y.jobs k).State) → ReadyAt ((allowing_all y).jobs k) w x → ReadyAt (y.jobs k) w x
-    known k w (idle past) ready = ready
-    known k w (busy r sp j past) ready = ready
-
-    each : (ds : List (Place y.Outcome)) → AllByRecursion (λ c. (c.slot < y.plan.slots) × ReadyAt (y.jobs c.slot) c.turn.node (s.slot c.slot)) ds →
-        AllByRecursion (λ c. (c.slot < y.plan.slots) × MayHaveAt ((allowing_all y).jobs c.slot) c.turn (s.slot c.slot)) ds
-    each [] all = tt
-    each (d ∷ ds) all = ((all.0.0, has d.slot d.turn (s.slot d.slot) all.0.1), each ds all.1)
-
 run_seen : (y : System) (s u : State y) → RunFreely y s u → Run (allowing_all y) (seen y s) (seen y u)
 run_seen y s u begun_freely = begun
 run_seen y s u (released_freely {u = v} k run may) = released k (run_seen y s v run) may
-run_seen y s u (ticked_freely {u = v} cs run may) =
-    subst (Run (allowing_all y) (seen y s)) (sym (tick_seen y cs v)) (ticked cs (run_seen y s v run) (may_seen y v cs may))
+run_seen y s u (ticked_freely {u = v} cs run may) = ticked cs (run_seen y s v run) (may_seen y v cs may)
 
 pub responds_freely : (y : System) → RespondsFreely y
 responds_freely y law laws s run =
@@ -101,16 +85,19 @@ responds_freely y law laws s run =
 -- ---- a run is one with free outcomes
 
 may_freely : (y : System) (s : State y) (cs : List (Place y.Outcome)) → MayTick y s cs → MayTickFreely y s cs
-may_freely y s cs may = record { ready = each cs may.allowed; once = may.once; few = may.few; work_conserving = may.work_conserving }
+may_freely y s cs may =
+    record {
+      ready =
+          all_weaker (λ c. (c.slot < y.plan.slots) × MayHaveAt (y.jobs c.slot) c.turn (s.slot c.slot)) (λ c. (c.slot < y.plan.slots) × ReadyAt (y.jobs c.slot) c.turn.node (s.slot c.slot))
+          (λ c h. (h.0, ready c.slot c.turn (s.slot c.slot) h.1)) cs may.allowed;
+      once = may.once;
+      few = may.few;
+      work_conserving = may.work_conserving;
+    }
   where
     ready : (k : ℕ) (t : Turn y.Outcome) (x : Slot (y.jobs k).State) → MayHaveAt (y.jobs k) t x → ReadyAt (y.jobs k) t.node x
     ready k t (idle past) h = h
     ready k t (busy r sp j past) h = h.0
-
-    each : (ds : List (Place y.Outcome)) → AllByRecursion (λ c. (c.slot < y.plan.slots) × MayHaveAt (y.jobs c.slot) c.turn (s.slot c.slot)) ds →
-        AllByRecursion (λ c. (c.slot < y.plan.slots) × ReadyAt (y.jobs c.slot) c.turn.node (s.slot c.slot)) ds
-    each [] all = tt
-    each (d ∷ ds) all = ((all.0.0, ready d.slot d.turn (s.slot d.slot) all.0.1), each ds all.1)
 
 pub run_freely : (y : System) (s u : State y) → Run y s u → RunFreely y s u
 run_freely y s u begun = begun_freely

@@ -10,6 +10,7 @@ use Rattle.timing.specs.System.{System, Held}
 use Rattle.timing.specs.Run.{Slot, idle, busy, State, Place, turns_for, places_of, ReadyAt, MayHaveAt, OpenAt, MayTick}
 use Rattle.timing.proofs.Counting.{sum_to_add, sum_to_none, one_node}
 use Rattle.timing.proofs.Interference.{goes_ahead}
+use Rattle.timing.proofs.Logs.{all_weaker}
 
 -- ---- what is asked of the turns of each slot
 
@@ -82,30 +83,6 @@ module _ {O : Type 0} where
       go true e rest = (subst (λ (i : ℕ). P i c.turn) (sym (eqb-true k c.slot e)) h.0, rest)
       go false e rest = rest
 
--- what holds of the turns of each slot holds of every place
-pub places_by_turns : {O : Type 0} (P : ℕ → Turn O → Type 0) (cs : List (Place O)) → ((k : ℕ) → AllByRecursion (P k) (turns_for k cs)) → AllByRecursion (λ c. P c.slot c.turn) cs
-places_by_turns P [] h = tt
-places_by_turns P (c ∷ cs) h = (here (eqb c.slot c.slot) (same c.slot) (h c.slot), places_by_turns P cs (λ k. rest k (eqb k c.slot) (h k)))
-  where
-    same : (k : ℕ) → eqb k k ≡ true
-    same k = grind (arith, nat_tests)
-
-    here : (b : Bool) → b ≡ true → AllByRecursion (P c.slot) (cond b (c.turn ∷ turns_for c.slot cs) (turns_for c.slot cs)) → P c.slot c.turn
-    here true e all = all.0
-    here false e all = absurd (grind arith)
-
-    rest : (k : ℕ) (b : Bool) → AllByRecursion (P k) (cond b (c.turn ∷ turns_for k cs) (turns_for k cs)) → AllByRecursion (P k) (turns_for k cs)
-    rest k true all = all.1
-    rest k false all = all
-
-all_first : {X : Type 0} (P Q : X → Type 0) (xs : List X) → AllByRecursion (λ x. P x × Q x) xs → AllByRecursion P xs
-all_first P Q [] h = tt
-all_first P Q (x ∷ xs) h = (h.0.0, all_first P Q xs h.1)
-
-all_second : {X : Type 0} (P Q : X → Type 0) (xs : List X) → AllByRecursion (λ x. P x × Q x) xs → AllByRecursion Q xs
-all_second P Q [] h = tt
-all_second P Q (x ∷ xs) h = (h.0.1, all_second P Q xs h.1)
-
 module _ (y : System) (s : State y) (cs : List (Place y.Outcome)) (may : MayTick y s cs) where
   abbrev turns : Turns y
   turns k = turns_for k cs
@@ -113,10 +90,10 @@ module _ (y : System) (s : State y) (cs : List (Place y.Outcome)) (may : MayTick
   turns_allowed : (k : ℕ) → AllByRecursion (λ t. MayHaveAt (y.jobs k) t (s.slot k)) (turns_for k cs)
   turns_allowed k =
       turns_of_places (λ i t. MayHaveAt (y.jobs i) t (s.slot i)) k cs
-      (all_second (λ c. c.slot < y.plan.slots) (λ c. MayHaveAt (y.jobs c.slot) c.turn (s.slot c.slot)) cs may.allowed)
+      (all_weaker (λ c. (c.slot < y.plan.slots) × MayHaveAt (y.jobs c.slot) c.turn (s.slot c.slot)) (λ c. MayHaveAt (y.jobs c.slot) c.turn (s.slot c.slot)) (λ c h. h.1) cs may.allowed)
 
   all_running : running y turns ≡ length cs
-  all_running = all_turns y.plan.slots cs (all_first (λ c. c.slot < y.plan.slots) (λ c. MayHaveAt (y.jobs c.slot) c.turn (s.slot c.slot)) cs may.allowed)
+  all_running = all_turns y.plan.slots cs (all_weaker (λ c. (c.slot < y.plan.slots) × MayHaveAt (y.jobs c.slot) c.turn (s.slot c.slot)) (λ c. c.slot < y.plan.slots) (λ c h. h.0) cs may.allowed)
 
   fair_at : (k : ℕ) (x : Slot (y.jobs k).State) → AllByRecursion (λ t. MayHaveAt (y.jobs k) t x) (turns_for k cs) → FairAt (y.jobs k) (turns_for k cs) x
   fair_at k (idle past) allowed = no_turns (turns_for k cs) allowed

@@ -1,7 +1,7 @@
 -- The response-time theorem where a tick may bring a ready node any outcome, allowed or not. Assumes nothing.
 use Rattle.std.specs.Prelude.{◌≡◌, ℕ, ◌+◌, ◌<◌, ◌≤◌, ◌⊎◌, List, [], ◌∷◌, length}
 use Rattle.std.specs.List.{AllByRecursion}
-use Rattle.timing.specs.Jobs.{Jobs, Turn, turns_of, LawsIn}
+use Rattle.timing.specs.Jobs.{Turn, turns_of, LawsIn}
 use Rattle.timing.specs.System.{Plan, Held, Bounded, System}
 use Rattle.timing.specs.Run.{idle, State, start, MayRelease, release, Place, places_of, ReadyAt, GoesAhead, tick}
 use Rattle.timing.specs.Statements.{Timely, NoOverlap, EndedWithin, past_of, TestedJobs, system_of}
