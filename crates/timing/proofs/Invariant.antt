@@ -1,8 +1,7 @@
 -- What holds in every state of a run, and the response-time theorem.
 use Rattle.std.proofs.Common.{◌≡◌, ℕ, suc, ◌+◌, ◌-◌, ◌<◌, ◌≤◌, Bool, true, false, cond, eqb, ◌⊎◌, List, [], ◌∷◌, ◌++◌, length, replicate, sym, refl, ap, subst, inl, inr, arith}
 use mathlib.Core.Path.{fun_ext}
-use Rattle.std.proofs.lemmas.Bool.Decides.{nat_tests}
-use Rattle.std.proofs.lemmas.Bool.{cases_lt, eqb-true}
+use Rattle.std.proofs.lemmas.Bool.{cases_lt, eq-eqb, eqb-true}
 use Rattle.std.specs.List.{AllByRecursion}
 use Rattle.bounds.specs.Equation.{sum_to, apart_from}
 use Rattle.timing.specs.Window.{Job, Fits, ApartBefore, Apart}
@@ -357,10 +356,7 @@ module _ (y : System) (law : Bounded y.plan) (laws : SoundJobs y) (s : State y) 
   ends k may u run late =
       known_ended (y.plan.bound k) u.now s.now (u.slot k) late
       (timely_slot y k u.now (u.slot k) ((run_inv y laws law (release y k s) u (release_inv y laws law s k may inv) run).ok k may.0))
-      (run_known y k s.now (release y k s) u (begin_new s.now (y.jobs k).fresh (eqb k k) (s.slot k) (same k) (no_overlap k may)) run)
-    where
-      same : (n : ℕ) → eqb n n ≡ true
-      same n = grind (arith, nat_tests)
+      (run_known y k s.now (release y k s) u (begin_new s.now (y.jobs k).fresh (eqb k k) (s.slot k) (eq-eqb k k refl) (no_overlap k may)) run)
 
 pub responds : (y : System) → Responds y
 responds y law laws s run =

@@ -37,7 +37,7 @@ module _ (m R W a n : ℕ) (j : Job) (fits : Fits m W R j) where
         count_narrow m j.released ((a + n) - j.released) j.spent fits.narrow,
       )
 
--- a bound times m
+-- a bound times m; std's lemma with its numbers written out, which a search for h needs
 times_le : (m x y : ℕ) → x ≤ y → m * x ≤ m * y
 times_le m x y h = mul-le-mul_left m h
 
