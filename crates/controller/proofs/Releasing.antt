@@ -8,8 +8,8 @@ use Rattle.bounds.specs.declared.plan.Plan.{Plan}
 use Rattle.bounds.specs.Equation.{bound, held}
 use Rattle.admission.specs.Demands.{Demands}
 use Rattle.admission.specs.Same.{SlotDemands}
-use Rattle.runs.specs.Run.{Done, Slot, idle, busy, start, begun, released, Spaced, MayRelease, begin, release}
-use Rattle.runs.specs.System.{System}
+use Rattle.timing.specs.Run.{Done, Slot, idle, busy, start, begun, released, Spaced, MayRelease, begin, release}
+use Rattle.timing.specs.System.{System}
 use Rattle.response.specs.Jobs.{JobState}
 use Rattle.response.specs.System.{number, there}
 use Rattle.dispatch.specs.declared.job.Job.{Job}

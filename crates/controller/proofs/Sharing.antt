@@ -10,8 +10,8 @@ use Rattle.jobs.specs.declared.node_state.NodeState.{NodeState}
 use Rattle.jobs.specs.Job.{Ready, Reached}
 use Rattle.jobs.specs.Sharing.{MayShare}
 use Rattle.jobs.proofs.Share.{ready_may_share_holds_lem}
-use Rattle.runs.specs.Run.{busy}
-use Rattle.runs.proofs.Invariant.{SoundSlot, run_sound}
+use Rattle.timing.specs.Run.{busy}
+use Rattle.timing.proofs.Invariant.{SoundSlot, run_sound}
 use Rattle.response.specs.Jobs.{JobState, graph_jobs}
 use Rattle.response.proofs.InTime.{plan_bounded, jobs_sound}
 use Rattle.dispatch.specs.declared.job.Job.{Job}

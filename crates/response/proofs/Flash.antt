@@ -12,7 +12,7 @@ use Rattle.task.proofs.Apart.{plain_not_opening, plain_not_closing}
 use Rattle.jobs.specs.Job.{Ready, Outcome, idle, goes_on, ends_with, Allowed, released}
 use Rattle.jobs.proofs.Entering.{untouched_not_ended}
 use Rattle.jobs.proofs.Tick.{ends_not_idle}
-use Rattle.runs.specs.Jobs.{Turn, MayHave}
+use Rattle.timing.specs.Jobs.{Turn, MayHave}
 use Rattle.response.specs.Jobs.{outcome_in, graph_jobs}
 use Rattle.response.specs.Example.{flash}
 

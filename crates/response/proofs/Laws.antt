@@ -21,8 +21,8 @@ use Rattle.jobs.proofs.Progress.{first_node_at_top, progress_holds_lem}
 use Rattle.jobs.proofs.Started.{Started, ready_started, ended_started, ran_started}
 use Rattle.jobs.proofs.Step.{step_holds_lem}
 use Rattle.jobs.proofs.Tick.{idle_or_not, taken_kept, ended_now, ends_not_idle}
-use Rattle.runs.specs.Jobs.{Turn, turns_of, MayHave, Fair}
-use Rattle.runs.proofs.Weights.{weighs, work_weighs}
+use Rattle.timing.specs.Jobs.{Turn, turns_of, MayHave, Fair}
+use Rattle.timing.proofs.Weights.{weighs, work_weighs}
 use Rattle.response.specs.Jobs.{JobState, outcome_in, advance, LeadsTo, ChainTo, graph_jobs}
 use Rattle.response.specs.Statements.{EndsDecided, GraphsKeepLaws}
 use Rattle.response.proofs.Trails.{onward, onward_last, onward_each, onward_chain, onward_ran, each_implies}

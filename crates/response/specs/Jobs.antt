@@ -9,7 +9,7 @@ use Rattle.jobs.specs.declared.node_state.NodeState.{NodeState}
 use Rattle.jobs.specs.Job.{HasEnded, Taken, Ready, Outcome, idle, after, Allowed, released, ran_now, Reached}
 use Rattle.jobs.specs.Statements.{ran_along, ran_in_all}
 use Rattle.jobs.proofs.Ended.{t_job_ended}
-use Rattle.runs.specs.Jobs.{Turn, Jobs}
+use Rattle.timing.specs.Jobs.{Turn, Jobs}
 
 -- how far a job is with each node, and the ticks that each node has run, which the state of an ended node does not tell
 pub record JobState : Type 0 where

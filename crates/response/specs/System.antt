@@ -7,7 +7,7 @@ use Rattle.bounds.specs.declared.plan.Demand.{Demand}
 use Rattle.bounds.specs.declared.plan.Plan.{Plan}
 use Rattle.bounds.specs.Equation.{Caps, held, bound}
 use Rattle.jobs.specs.Job.{Outcome}
-use Rattle.runs.specs.System.{Plan as Numbers, System}
+use Rattle.timing.specs.System.{Plan as Numbers, System}
 use Rattle.response.specs.Jobs.{graph_jobs}
 
 -- who goes ahead of whom
