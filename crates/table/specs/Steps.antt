@@ -1,5 +1,5 @@
 -- What the private functions say of one step. No public contract rests on these words. Assumes nothing.
-use Rattle.std.specs.Prelude.{◌≡◌, ℕ, ◌+◌, ◌<◌, ◌≤◌, List, length, drop, Some, None, Option, slice_set}
+use Rattle.std.specs.Prelude.{◌≡◌, ℕ, ◌+◌, ◌<◌, ◌≤◌, ◌⊎◌, List, length, drop, Some, None, Option, slice_set}
 use Rattle.table.specs.declared.records.Table.{Table}
 use Rattle.table.specs.declared.records.Kind.{Kind}
 use Rattle.table.specs.declared.records.Kind.TheVariants.{OfTask, OfNode, OfArc}
@@ -9,9 +9,42 @@ use Rattle.table.specs.Run.{counted}
 use Rattle.table.specs.Layout.{Laid, Faulty}
 use Rattle.table.specs.declared.fault.Fault.{Fault}
 use Rattle.table.specs.declared.fault.Fault.TheVariants.{Layout, Range}
-use Rattle.table.specs.Format.{Record, task, node, arc, size, kind, fields}
-use Rattle.table.specs.Range.{InRange}
+use Rattle.table.specs.declared.fault.Field.TheVariants.{Role as role_field, Mate as mate_field, Home as home_field, Branch as branch_field}
+use Rattle.table.specs.declared.fault.Misfit.{Misfit}
+use Rattle.table.specs.declared.records.Role.{Role}
+use Rattle.table.specs.declared.records.Region.{Region}
+use Rattle.table.specs.Fields.{MateFits, HomeFits, BranchFits}
+use Rattle.table.specs.Format.{Record, task, node, arc, size, kind, fields, role_byte, mate_byte, home_byte, branch_byte}
+use Rattle.table.specs.Range.{InRange, RoleInRange, RegionInRange}
 use Rattle.table.specs.Reading.{behind_header}
+
+-- these bytes tell this role, in range
+pub record RoleTold (own role mate : ℕ) (r : Role) : Type 0 where
+  pub role_is : role_byte r ≡ role
+  pub mate_is : mate_byte r ≡ mate
+  pub in_range : RoleInRange own r
+  pub role_fits : role ≤ 2
+  pub mate_fits : MateFits own role mate
+
+-- the first of them that is out of range
+abbrev pub RoleMisfits : ℕ → ℕ → ℕ → Misfit → Type 0
+RoleMisfits own role mate m =
+    ((m ≡ record { field = role_field; value = role }) × (role ≤ 2 → ⊥))
+    ⊎ ((role ≤ 2) × (m ≡ record { field = mate_field; value = mate }) × (MateFits own role mate → ⊥))
+
+-- these bytes tell this region, in range
+pub record RegionTold (own home branch : ℕ) (r : Region) : Type 0 where
+  pub home_is : home_byte r ≡ home
+  pub branch_is : branch_byte r ≡ branch
+  pub in_range : RegionInRange own r
+  pub home_fits : HomeFits own home
+  pub branch_fits : BranchFits home branch
+
+-- the first of them that is out of range
+abbrev pub RegionMisfits : ℕ → ℕ → ℕ → Misfit → Type 0
+RegionMisfits own home branch m =
+    ((m ≡ record { field = home_field; value = home }) × (HomeFits own home → ⊥))
+    ⊎ (HomeFits own home × (m ≡ record { field = branch_field; value = branch }) × (BranchFits home branch → ⊥))
 
 -- the table with one record more
 abbrev pub added : Table → Record → Table
