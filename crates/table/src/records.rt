@@ -46,7 +46,7 @@ pub struct Timing {
     pub deadline: u32,
 }
 
-// At most N items, in fixed memory: the first `len` of the items.
+// At most N items, in fixed memory: the first `len` of the items. No ArrayVec of the kit, which isn't Copy as a table is.
 #[derive(Clone, Copy, Debug, PartialEq, Eq, Drop)]
 pub struct FixedList<T, const N: usize> {
     pub items: [T; N],
@@ -54,6 +54,7 @@ pub struct FixedList<T, const N: usize> {
 }
 
 pub type NodeList = FixedList<Node, 64>;
+
 pub type ArcList = FixedList<Arc, 256>;
 
 // The records of a table.

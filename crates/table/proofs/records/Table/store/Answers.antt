@@ -1,6 +1,6 @@
 use Rattle.std.proofs.Common.{sym, refl}
 use Rattle.table.specs.Format.{task, node, arc}
-use Rattle.table.proofs.records.Table.put.Goals as goal
+use Rattle.table.proofs.records.Table.store.Goals as goal
 
 pub returns-in_ok-self-in-OfTask : goal.returns-in_ok-self-in-OfTask
 returns-in_ok-self-in-OfTask c =
