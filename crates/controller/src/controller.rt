@@ -25,10 +25,8 @@ impl<O: Order + Drop> Controller<O> {
         ensures opened { elim result [ Ok c ↦ (c.order ≡ order) × Opened cores c.tables | Err e ↦ (e ≡ Cores) × (1 ≤ cores → cores ≤ 16 → ⊥) ] }
         ensures begins { elim result [ Ok c ↦ History (meaning (O.Order.goes order) (O.Order.most order)) [] c.tables | Err e ↦ Unit {0} ] }
     {
-        match Tables::new(cores) {
-            Some(tables) => Ok(Controller { order, tables }),
-            None => Err(Refusal::Cores),
-        }
+        let tables = Tables::new(cores).ok_or(Refusal::Cores)?;
+        Ok(Controller { order, tables })
     }
 }
 
@@ -67,13 +65,9 @@ impl<O: Order> Controller<O> {
         ensures same { self.new.order ≡ self.old.order }
         ensures refused { OnRefusal result ((self.new ≡ self.old) × (list.new ≡ list.old)) }
     {
-        if let Err(refusal) = self.tables.may_admit(list) {
-            return Err(refusal);
-        }
-        match self.tables.bounds_under(&self.order) {
-            Ok(bounds) => Ok(self.tables.keep_bounds(bounds, list)),
-            Err(_) => Err(Refusal::NoBounds),
-        }
+        self.tables.may_admit(list)?;
+        let bounds = self.tables.bounds_under(&self.order)?;
+        Ok(self.tables.keep_bounds(bounds, list))
     }
 
     // Opens a job of the slot's task, and answers its bound.
@@ -91,9 +85,7 @@ impl<O: Order> Controller<O> {
         ensures same { self.new.order ≡ self.old.order }
         ensures refused { OnRefusal result ((self.new ≡ self.old) × (list.new ≡ list.old)) }
     {
-        if let Err(refusal) = self.tables.may_tick(list) {
-            return Err(refusal);
-        }
+        self.tables.may_tick(list)?;
         let ahead = precedence(&self.order, &self.tables.tasks, &self.tables.jobs);
         Ok(self.tables.keep_spots(&ahead, list))
     }
