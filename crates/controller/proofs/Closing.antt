@@ -7,12 +7,12 @@ use Rattle.task.specs.Held.{nodes_of, arcs_of}
 use Rattle.task.proofs.Recovered.{lawful_task}
 use Rattle.bounds.specs.declared.plan.Demand.{Demand}
 use Rattle.bounds.specs.Equation.{bound, held}
-use Rattle.held_jobs.specs.Job.{JobEnded, Outcome, after}
-use Rattle.held_jobs.proofs.Ended.{t_job_ended}
-use Rattle.runs.specs.Jobs.{Turn}
-use Rattle.runs.specs.Run.{Done, Slot, idle, busy, State, turns_for, settle, work, tick, Run, ticked}
-use Rattle.runs.specs.Statements.{TimelySlot}
-use Rattle.runs.specs.System.{System}
+use Rattle.jobs.specs.Job.{JobEnded, Outcome, after}
+use Rattle.jobs.proofs.Ended.{t_job_ended}
+use Rattle.timing.specs.Jobs.{Turn}
+use Rattle.timing.specs.Run.{Done, Slot, idle, busy, State, turns_for, settle, work, tick, Run, ticked}
+use Rattle.timing.specs.Statements.{TimelySlot}
+use Rattle.timing.specs.System.{System}
 use Rattle.response.specs.Jobs.{JobState, outcome_in, advance}
 use Rattle.response.proofs.Laws.{true_ended, ended_true}
 use Rattle.response.proofs.Turns.{after_same}
@@ -119,7 +119,7 @@ module _ (o : Meaning) (laws : LawfulOrder o) (t u : Tables) (b : ℕ → Line) 
     abbrev next : State (system o t.plan t.tasks R)
     next = tick y (tick_places o laws t b sound R running spots n placed outcomes as_many right) σ
 
-    goes_on : Run y (Rattle.runs.specs.Run.start y) next
+    goes_on : Run y (Rattle.timing.specs.Run.start y) next
     goes_on = ticked (tick_places o laws t b sound R running spots n placed outcomes as_many right) running.run
         (may_tick_lem o laws t b sound R running spots n placed outcomes as_many right)
 

@@ -9,7 +9,7 @@ use Rattle.task.specs.declared.held.Task.{Task}
 use Rattle.bounds.specs.declared.plan.Demand.{Demand}
 use Rattle.bounds.specs.Equation.{bound, held}
 use Rattle.admission.specs.Same.{SlotDemands}
-use Rattle.runs.specs.Run.{Slot, idle, busy}
+use Rattle.timing.specs.Run.{Slot, idle, busy}
 use Rattle.response.specs.Jobs.{JobState}
 use Rattle.dispatch.specs.declared.job.Job.{Job}
 use Rattle.dispatch.specs.Tables.{job_at}

@@ -7,8 +7,8 @@ use Rattle.task.specs.declared.held.Task.{Task}
 use Rattle.bounds.specs.declared.plan.Demand.{Demand}
 use Rattle.bounds.specs.declared.plan.Plan.{Plan}
 use Rattle.bounds.specs.Equation.{bound, held, Solves}
-use Rattle.runs.specs.System.{System}
-use Rattle.runs.specs.Run.{Done, Slot, idle, busy, State, start, Run}
+use Rattle.timing.specs.System.{System}
+use Rattle.timing.specs.Run.{Done, Slot, idle, busy, State, start, Run}
 use Rattle.response.specs.Jobs.{JobState}
 use Rattle.response.specs.System.{system_of}
 use Rattle.dispatch.specs.declared.job.Job.{Job}

@@ -10,9 +10,9 @@ use Rattle.bounds.specs.declared.plan.Plan.{Plan}
 use Rattle.bounds.specs.Equation.{bound, held, Solves}
 use Rattle.admission.specs.Demands.{Demands}
 use Rattle.admission.specs.Same.{SlotDemands}
-use Rattle.runs.specs.System.{Held}
-use Rattle.runs.specs.Run.{Slot, idle, busy, State, start, Run}
-use Rattle.runs.specs.Statements.{Timely, TimelySlot}
+use Rattle.timing.specs.System.{Held}
+use Rattle.timing.specs.Run.{Slot, idle, busy, State, start, Run}
+use Rattle.timing.specs.Statements.{Timely, TimelySlot}
 use Rattle.response.specs.Jobs.{JobState}
 use Rattle.response.specs.Statements.{Planned}
 use Rattle.response.specs.System.{there}

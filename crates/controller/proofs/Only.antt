@@ -3,7 +3,7 @@ use Rattle.std.proofs.Common.{◌≡◌, ℕ, ◌-◌, ◌<◌, ◌≤◌, Bool,
 use Rattle.std.proofs.lemmas.List.{ext_get_or}
 use Rattle.std.proofs.lemmas.Bool.{cases_lt}
 use Rattle.sets.specs.Tests.{FailsFirst, Says}
-use Rattle.held_jobs.specs.Sharing.{MayShare}
+use Rattle.jobs.specs.Sharing.{MayShare}
 use Rattle.task.specs.declared.held.Refusal.{Refusal as TableRefusal}
 use Rattle.task.specs.declared.held.Task.{Task}
 use Rattle.task.specs.Described.{Told}

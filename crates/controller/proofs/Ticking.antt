@@ -12,11 +12,11 @@ use Rattle.task.specs.Graph.{role, time, HasBranch}
 use Rattle.task.specs.Held.{nodes_of, arcs_of}
 use Rattle.bounds.specs.declared.plan.Demand.{Demand}
 use Rattle.bounds.specs.Equation.{bound, held}
-use Rattle.held_jobs.specs.declared.node_state.NodeState.{NodeState}
-use Rattle.held_jobs.specs.Job.{state, ticks, Ready, Outcome, idle as not_run, goes_on, ends_with, Allowed}
-use Rattle.runs.specs.Jobs.{MayHave}
-use Rattle.runs.specs.Run.{Slot, idle, busy, State, Place, places_of, ReadyAt, MayHaveAt, OpenAt, GoesAhead as RunAhead, MayTick}
-use Rattle.runs.specs.System.{System}
+use Rattle.jobs.specs.declared.node_state.NodeState.{NodeState}
+use Rattle.jobs.specs.Job.{state, ticks, Ready, Outcome, idle as not_run, goes_on, ends_with, Allowed}
+use Rattle.timing.specs.Jobs.{MayHave}
+use Rattle.timing.specs.Run.{Slot, idle, busy, State, Place, places_of, ReadyAt, MayHaveAt, OpenAt, GoesAhead as RunAhead, MayTick}
+use Rattle.timing.specs.System.{System}
 use Rattle.response.specs.Jobs.{JobState, outcome_in, graph_jobs}
 use Rattle.response.specs.System.{party_at}
 use Rattle.dispatch.specs.declared.job.Job.{Job}
