@@ -7,9 +7,9 @@ use denote.Ref.{Bor}
 use Rattle.task.specs.declared.held.Task.{Task}
 use Rattle.dispatch.specs.declared.job.Job.{Job}
 use Rattle.controller.specs.declared.refusal.Refusal.{Refusal}
-use Rattle.controller.specs.declared.refusal.Refusal.TheVariants.{Empty}
+use Rattle.controller.specs.declared.refusal.Refusal.TheVariants.{Empty, NotAdmitted}
 use Rattle.controller.specs.declared.tables.Tables.{Tables}
-use Rattle.controller.specs.Checks.{Checked, slot_held}
+use Rattle.controller.specs.Checks.{Checked, slot_held, admitted}
 use Rattle.controller.specs.State.{Meaning, meaning, task_in, SomeOpen, held_in}
 
 -- some order: most checks pass or fail whatever the order
@@ -34,7 +34,7 @@ counted_from (None ∷ ts) n = counted_from ts (n + 0) ∙ omega arith
 counted_from (Some τ ∷ ts) n = counted_from ts (n + 1) ∙ omega arith
 
 pub held_counted : (ts : List (Option Task)) → count_by is_some ts ≡ held_in ts
-held_counted ts = counted_from ts 0
+held_counted ts = counted_from ts 0 ∙ omega arith
 
 pub held_few : (ts : List (Option Task)) → held_in ts ≤ length ts
 held_few [] = omega arith
@@ -46,3 +46,9 @@ pub held_checked : (t : Tables) (s : ℕ) (x : Option (Bor Task)) (r : Result (B
     → Checked t (slot_held s) (λ τ. task_in t s ≡ Some τ.now) r
 held_checked t s None r e f = rw f (λ o. (sym e, refl))
 held_checked t s (Some τ) r e f = rw f ((λ o. (τ.now, sym e)), sym e)
+
+-- the bounds looked up
+pub admitted_checked : (t : Tables) (x : Option (List ℕ)) (r : Result (List ℕ) Refusal) → x ≡ t.bounds → r ≡ ok_or x NotAdmitted
+    → Checked t admitted (λ bounds. t.bounds ≡ Some bounds) r
+admitted_checked t None r e f = rw f (λ o. (sym e, refl))
+admitted_checked t (Some bounds) r e f = rw f ((λ o. (bounds, sym e)), sym e)

@@ -1,6 +1,6 @@
 // The checks of calls: each passes, or turns the call away under its refusal.
 ghost use Rattle.std.specs.Prelude.{◌≡◌, ℕ, ◌≤◌, List, [], ◌∷◌, length, Some, None, Ok, Err};
-ghost use Rattle.controller.specs.Checks.{Check, Checked, Decided, TurnedAway, slot_exists as slot_is_one, no_tick_open, no_job_open, slot_free, slot_held, period_over, earlier_ended, room_for_bounds, room_for_cores, bounds_exist};
+ghost use Rattle.controller.specs.Checks.{Check, Checked, Decided, TurnedAway, slot_exists as slot_is_one, no_tick_open, no_job_open, slot_free, slot_held, admitted, period_over, earlier_ended, room_for_bounds, room_for_cores, bounds_exist};
 ghost use Rattle.controller.specs.declared.refusal.Refusal.TheVariants.{NoSlot};
 ghost use Rattle.controller.specs.State.{Meaning, cores, task_in, NoneOpen};
 
@@ -95,6 +95,13 @@ impl Tables {
         ensures { Checked self.now (slot_held slot.number) (λ τ. task_in self.now slot.number ≡ Some τ.now) result }
     {
         self.tasks[slot.index()].as_ref().ok_or(Refusal::Empty)
+    }
+
+    // The bounds of the tasks as they are, where they have been admitted.
+    pub(crate) fn admitted(&self) -> Result<[u32; 16], Refusal>
+        ensures { Checked self.now admitted (λ bounds. self.now.bounds ≡ Some bounds) result }
+    {
+        self.bounds.ok_or(Refusal::NotAdmitted)
     }
 
     // The slot's task was never released, or a period ago.

@@ -25,11 +25,7 @@ const LONGEST_PERIOD: u32 = 1_000_000;
 fn wait_longer(waited: Option<u32>) -> Option<u32>
     ensures { result ≡ one_more waited }
 {
-    waited.map(|ticks| if ticks < LONGEST_PERIOD {
-        ticks + 1
-    } else {
-        LONGEST_PERIOD
-    })
+    waited.map(|ticks| ticks.saturating_add(1).min(LONGEST_PERIOD))
 }
 
 // One tick more since each release.
@@ -85,9 +81,7 @@ impl Tables {
         let slot = slot_exists(slot)?;
         self.no_tick_open()?;
         let task = self.slot_held(slot)?;
-        let Some(bounds) = self.bounds else {
-            return Err(Refusal::NotAdmitted);
-        };
+        let bounds = self.admitted()?;
         self.period_over(slot, task)?;
         self.earlier_ended(slot)?;
         self.jobs[slot.index()] = Some(Job::new());

@@ -19,11 +19,12 @@ returns-in_err-task c =
       unchanged = refl;
     })
 
-pub returns-in_default : goal.returns-in_default
-returns-in_default c =
+pub returns-in_err-bounds : goal.returns-in_err-bounds
+returns-in_err-bounds c =
     let e = c.in_ok-slot.ensures in
-    λ o. rw (← e) (record {
-      away = inr (c.in_ok-slot.slot.in_range, inr (c.in_ok-no_tick_open.ensures o, inr (c.in_ok-task.ensures.0 o, inl (c.in_default.is, refl))));
+    let p = err_from_is_err_and c.from_residual-in_err-bounds.result c.from_residual-in_err-bounds.ensures.1 in
+    rw (p.1, p.2, ← e) (λ o. record {
+      away = inr (c.in_ok-slot.slot.in_range, inr (c.in_ok-no_tick_open.ensures o, inr (c.in_ok-task.ensures.0 o, inl (c.in_err-bounds.ensures o))));
       unchanged = refl;
     })
 
@@ -34,7 +35,7 @@ returns-in_err-period_over c =
     rw (p.1, p.2, ← e) (λ o. record {
       away = inr (
         c.in_ok-slot.slot.in_range,
-        inr (c.in_ok-no_tick_open.ensures o, inr (c.in_ok-task.ensures.0 o, inr ((c.in-Some.bounds, c.in-Some.is), inl (c.in_err-period_over.ensures o)))),
+        inr (c.in_ok-no_tick_open.ensures o, inr (c.in_ok-task.ensures.0 o, inr (c.in_ok-bounds.ensures.0 o, inl (c.in_err-period_over.ensures o)))),
       );
       unchanged = refl;
     })
@@ -48,7 +49,7 @@ returns-in_err-earlier_ended c =
         c.in_ok-slot.slot.in_range,
         inr (
           c.in_ok-no_tick_open.ensures o,
-          inr (c.in_ok-task.ensures.0 o, inr ((c.in-Some.bounds, c.in-Some.is), inr (c.in_ok-period_over.ensures o, inl (c.in_err-earlier_ended.ensures o)))),
+          inr (c.in_ok-task.ensures.0 o, inr (c.in_ok-bounds.ensures.0 o, inr (c.in_ok-period_over.ensures o, inl (c.in_err-earlier_ended.ensures o)))),
         ),
       );
       unchanged = refl;
@@ -62,13 +63,13 @@ returns c =
         c.in_ok-slot.slot.in_range,
         (
           c.in_ok-no_tick_open.ensures o,
-          (c.in_ok-task.ensures.0 o, ((c.in-Some.bounds, c.in-Some.is), (c.in_ok-period_over.ensures o, (c.in_ok-earlier_ended.ensures o, tt)))),
+          (c.in_ok-task.ensures.0 o, (c.in_ok-bounds.ensures.0 o, (c.in_ok-period_over.ensures o, (c.in_ok-earlier_ended.ensures o, tt)))),
         ),
       ),
       record {
-        bounds = c.in-Some.bounds;
-        admitted = c.in-Some.is;
-        told = ap (λ (k : ℕ). bound c.in-Some.bounds k) c.index-3.ensures.value;
+        bounds = c.in_ok-bounds.bounds;
+        admitted = c.in_ok-bounds.ensures.1;
+        told = ap (λ (k : ℕ). bound c.in_ok-bounds.bounds k) c.index-3.ensures.value;
         opened = ap (λ (k : ℕ). set c.args.self.now.jobs k (Some c.new.result)) c.index.ensures.value ∙ ap (λ (x : Job). set c.args.self.now.jobs c.in_ok-slot.slot.number (Some x)) c.new.ensures;
         just_now = ap (λ (k : ℕ). set c.args.self.now.waited k (Some 0)) c.index-2.ensures.value;
         same = record { same_plan = refl; same_held = refl };

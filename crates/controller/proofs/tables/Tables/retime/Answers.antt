@@ -1,7 +1,8 @@
-use Rattle.std.proofs.Common.{◌<◌, [], ◌∷◌, length, refl, ap, inl, inr, arith}
+use Rattle.std.proofs.Common.{ℕ, ◌<◌, [], ◌∷◌, length, sym, refl, ap, ◌∙◌, subst, inl, inr, arith}
 use Rattle.std.proofs.lemmas.Result.{err_from_is_err_and}
 use Rattle.task.specs.Held.{nodes_of}
-use Rattle.controller.specs.Checks.{slot_held, node_exists, time_in_range}
+use Rattle.task.specs.Retimed.{retimed}
+use Rattle.controller.specs.Checks.{PastNodes, slot_held, node_exists, time_in_range}
 use Rattle.controller.proofs.Editing.{not_a_time}
 use Rattle.controller.proofs.tables.Tables.retime.Goals as goal
 
@@ -25,7 +26,7 @@ returns-in_err-before c =
 pub returns-then-node-nodes : goal.returns-then-node-nodes
 returns-then-node-nodes c =
     let e = c.in_ok-slot.ensures in
-    let past = record {
+    let past : PastNodes c.args.self.now c.in_ok-slot.slot.number c.args.node = record {
       task = c.in_ok-before.field-0.now;
       held = c.in_ok-before.ensures.1;
       past = omega (arith, c.if-node-nodes.true, c.from-node.ensures, ap length c.nodes.ensures.value);
@@ -40,7 +41,7 @@ returns-in_default c =
     let e = c.in_ok-slot.ensures in
     let there : c.args.node < length (nodes_of c.in_ok-before.field-0.now.table) =
     omega (arith, c.if-node-nodes.false, c.from-node.ensures, ap length c.nodes.ensures.value) in
-    let bad = not_a_time c.args.time (λ some short. c.in_default.ensures (record { is_node = ?; some_time = some; short_time = short })) in
+    let bad = not_a_time c.args.time (λ some short. c.in_default.ensures (record { is_node = subst (λ (v : ℕ). v < length (nodes_of c.in_ok-before.field-0.now.table)) (sym c.from-node.ensures) there; some_time = some; short_time = short })) in
     λ o. rw (← e.0) (record {
       away = inr (
         c.in_ok-slot.slot.in_range,
@@ -71,7 +72,7 @@ returns c =
         before = before;
         held = c.in_ok-before.ensures.1;
         task = c.in-Some.task;
-        one_time = ?;
+        one_time = r.1 ∙ ap (λ (v : ℕ). retimed before.table v c.args.time) c.from-node.ensures;
         put = c.put.ensures.put;
         same_waited = c.put.ensures.waits;
       },
