@@ -12,15 +12,6 @@ use Rattle.controller.specs.declared.tables.Tables.{Tables}
 use Rattle.controller.specs.Effects.{SameTasks}
 use Rattle.controller.specs.State.{Meaning, cores, party, period, held_in, Ticking, GoesAhead}
 
-abbrev pub period_at : Option Task → Option ℕ
-period_at None = None
-period_at (Some τ) = Some (period τ)
-
--- the ticks to go where less than a period has been waited
-abbrev pub ToGo : Option ℕ → ℕ → Option ℕ → Type 0
-ToGo waited T (Some n) = (w : ℕ) × (waited ≡ Some w) × (w < T) × (n ≡ T - w)
-ToGo waited T None = (w : ℕ) → waited ≡ Some w → T ≤ w
-
 -- the bounds are kept and told
 pub record BoundsKept (t : Tables) (bounds list : List ℕ) (n : ℕ) (after : List ℕ) (u : Tables) : Type 0 where
   pub kept : u.bounds ≡ Some bounds

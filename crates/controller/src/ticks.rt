@@ -4,7 +4,7 @@ ghost use Rattle.bounds.specs.Equation.{Told};
 ghost use Rattle.dispatch.specs.Tables.{task_at};
 ghost use Rattle.controller.specs.Does.{Opened, ReleaseDoes, CloseDoes};
 ghost use Rattle.controller.specs.Effects.{one_more};
-ghost use Rattle.controller.specs.Steps.{BoundsKept, SpotsKept, period_at, ToGo};
+ghost use Rattle.controller.specs.Steps.{BoundsKept, SpotsKept};
 ghost use Rattle.controller.specs.State.{Meaning, held_in};
 
 use crate::checks::slot_exists;

@@ -33,10 +33,7 @@ pub fn first_reel<O: Order + Drop>(
 ) -> Result<Controller<O>, Refusal>
     ensures { elim result [ Ok c ↦ InTimeAt (meaning (O.Order.goes order) (O.Order.most order)) c.tables | Err e ↦ Unit {0} ] }
 {
-    let mut scanner = match Controller::open(cores, order) {
-        Ok(scanner) => scanner,
-        Err(refusal) => return Err(refusal),
-    };
+    let mut scanner = Controller::open(cores, order)?;
     let _ = scanner.add(0, table);
     let _ = scanner.admit(bounds);
     Ok(scanner)

@@ -8,10 +8,10 @@ pub returns : goal.returns
 returns g c =
     let means : g.row.O.Denot → Meaning = λ x. meaning (g.O.Order.goes x) (g.O.Order.most x) in
     let o = means c.args.order in
-    let opening = c.in-Ok.ensures in
+    let opening = c.in_ok-scanner.ensures in
     let first = opening.opened.0 in
     let second = c.add.ensures.same in
-    let one = onward o (means c.in-Ok.scanner.order) c.in-Ok.scanner.tables c.add.new.self.tables (Add 0 c.args.table.now) c.add.result []
+    let one = onward o (means c.in_ok-scanner.scanner.order) c.in_ok-scanner.scanner.tables c.add.new.self.tables (Add 0 c.args.table.now) c.add.result []
     (ap means first) opening.begins c.add.ensures.kept in
     onward o (means c.add.new.self.order) c.add.new.self.tables c.admit.new.self.tables
     (Admit c.args.bounds.now) (c.admit.result, c.admit.new.list) one.events (ap means (second ∙ first)) one.led_here c.admit.ensures.kept

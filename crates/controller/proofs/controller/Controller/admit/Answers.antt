@@ -76,4 +76,3 @@ returns g c =
       same = refl;
       refused = tt;
     }
-
