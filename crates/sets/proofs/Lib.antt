@@ -1,3 +1,5 @@
 pub mod Bits
 pub mod Says
+pub mod Selected
+pub mod Found
 pub mod Marked

@@ -1,7 +1,8 @@
 -- Sets of numbers below 64, and of arcs between such numbers, as bits.
-use Rattle.std.specs.Prelude.{◌≡◌, ℕ, suc, ◌/◌, ◌%◌, ◌^◌, ◌<◌, ◌⊎◌, bit_or, slice_index_or}
+use Rattle.std.specs.Prelude.{◌≡◌, ℕ, suc, ◌/◌, ◌%◌, ◌^◌, ◌<◌, ◌⊎◌, Bool, bit_or, slice_index_or}
 use Rattle.sets.specs.declared.arc_set.ArcSet.{ArcSet}
 use Rattle.sets.specs.declared.bit_set.BitSet.{BitSet}
+use Rattle.sets.specs.Tests.{Says}
 
 abbrev pub Has : BitSet → ℕ → Type 0
 Has s n = s.bits / 2 ^ n % 2 ≡ 1
@@ -27,6 +28,11 @@ pub record Only (s : BitSet) (n : ℕ) : Type 0 where
 pub record Marks (P : ℕ → Type 0) (s : BitSet) : Type 0 where
   pub only : (n : ℕ) → Has s n → P n
   pub every : (n : ℕ) → P n → Has s n
+
+-- s has the numbers below n at which a test said yes, and no other; Answers tells what the test may say of a number
+pub record Selects (Answers : ℕ → Bool → Type 0) (n : ℕ) (s : BitSet) : Type 0 where
+  pub within : (k : ℕ) → Has s k → k < n
+  pub tested : (k : ℕ) → k < n → (b : Bool) × Answers k b × Says b (Has s k)
 
 -- n is the least number in s
 pub record Least (s : BitSet) (n : ℕ) : Type 0 where

@@ -6,7 +6,7 @@ ghost use Rattle.sets.specs.Tests.{Says};
 use crate::bit_set::BitSet;
 
 // Row u has the numbers to which an arc from u is in the set.
-#[derive(Clone, Copy, Drop)]
+#[derive(Clone, Copy, Debug, PartialEq, Eq, Drop)]
 pub struct ArcSet {
     rows: [BitSet; 64],
 }

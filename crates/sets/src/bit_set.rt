@@ -1,10 +1,10 @@
 // Sets of numbers below 64: nodes, or branches.
 ghost use Rattle.std.specs.Prelude.{◌≡◌, ℕ, ◌<◌, ◌≤◌, Some, None};
-ghost use Rattle.sets.specs.Sets.{JustOne, Has, With, Only, Least, Without, Marks, ◌∪◌};
+ghost use Rattle.sets.specs.Sets.{JustOne, Has, With, Only, Least, Without, Marks, Selects, ◌∪◌};
 ghost use Rattle.sets.specs.Tests.{Says};
 
 // Bit n is set where the number n is in the set.
-#[derive(Clone, Copy, Drop)]
+#[derive(Clone, Copy, Debug, PartialEq, Eq, Drop)]
 pub struct BitSet {
     bits: u64,
 }
@@ -12,16 +12,27 @@ pub struct BitSet {
 impl BitSet {
     pub const EMPTY: BitSet = BitSet { bits: 0 };
 
+    // The numbers below n that pass the test.
+    pub fn select<F: Fn(usize) -> bool>(n: usize, test: F) -> BitSet
+        requires few { n ≤ 64 }
+        requires callable { (k : ℕ) → k < n → F.pre test k }
+        ensures { Selects (F.post test) n result }
+    {
+        let mut set = BitSet::EMPTY;
+        for k in 0..n {
+            if test(k) {
+                set = set.with(k);
+            }
+        }
+        set
+    }
+
     // The numbers below n.
     pub fn below(n: usize) -> BitSet
         requires { n ≤ 64 }
         ensures { Marks (λ k. k < n) result }
     {
-        let mut set = BitSet::EMPTY;
-        for k in 0..n {
-            set = set.with(k);
-        }
-        set
+        BitSet::select(n, |_| true)
     }
 
     pub fn has(self, n: usize) -> bool
