@@ -11,10 +11,6 @@ use Rattle.bounds.specs.Equation.{held, bound, share, share_apart, spread, side}
 use Rattle.bounds.specs.Steps.{Holds}
 use Rattle.bounds.proofs.Sums.{sum_same}
 
--- what was read at a place is what the slot holds
-pub held_at : (p : Plan) (i : ℕ) (o e : Option Demand) → i < 16 → get_or p.slots i o ≡ e → held p i ≡ e
-held_at p i o e l h = get_or_default p.slots i None o (omega arith) ∙ h
-
 pub held_past : (p : Plan) (i : ℕ) → 16 ≤ i → held p i ≡ None
 held_past p i l = get_or_past p.slots i None (omega arith)
 

@@ -13,9 +13,6 @@ sum_suc : (n : ℕ) (f : ℕ → ℕ) → sum_to (suc n) f ≡ f n + sum_to n f
 unfolding sum_to
 sum_suc n f = refl
 
-pub sum_more : (n : ℕ) (f : ℕ → ℕ) → sum_to (n + 1) f ≡ f n + sum_to n f
-sum_more n f = rw (add-one n) (sum_suc n f)
-
 pub sum_mono : (n : ℕ) (f g : ℕ → ℕ) → ((i : ℕ) → i < n → f i ≤ g i) → sum_to n f ≤ sum_to n g
 sum_mono zero f g h = omega (arith, sum_none f)
 sum_mono (suc n) f g h = omega (arith, sum_suc n f, sum_suc n g, h n (omega arith), sum_mono n f g (λ i l. h i (omega arith)))

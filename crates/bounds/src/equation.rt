@@ -13,19 +13,6 @@ fn at_most(cap: Option<u64>, jobs: u64) -> u64
     cap.map_or(jobs, |cap| cap.min(jobs))
 }
 
-// What the jobs of a task use ahead of one job, where its bound and the job's add up to the window.
-fn work_ahead(cores: u64, e: Demand, cap: Option<u64>, window: u64) -> u64
-    requires { (1 ≤ cores) × ((cores ≤ 16) × (window < 2 ^ 33)) }
-    ensures value { result ≡ work_ahead_of cores e.total e.period cap window }
-    ensures small { result ≤ 2 ^ 59 }
-{
-    if cap == Some(0) {
-        return 0;
-    }
-    let left = (cores * window).saturating_sub(e.total);
-    e.total * at_most(cap, left.div_ceil(cores * u64::from(e.period)))
-}
-
 impl Rise {
     // The bound of a slot.
     pub(crate) fn bound(&self, k: Slot) -> u64
@@ -33,6 +20,20 @@ impl Rise {
         ensures small { result < 2 ^ 32 }
     {
         u64::from(self.bounds[k.index()])
+    }
+
+    // What the jobs of a task use ahead of one job, where its bound and the job's add up to the window.
+    fn work_ahead(&self, e: Demand, cap: Option<u64>, window: u64) -> u64
+        requires { window < 2 ^ 33 }
+        ensures value { result ≡ work_ahead_of self.now.plan.cores e.total e.period cap window }
+        ensures small { result ≤ 2 ^ 59 }
+    {
+        if cap == Some(0) {
+            return 0;
+        }
+        let cores = u64::from(self.plan.cores);
+        let left = (cores * window).saturating_sub(e.total);
+        e.total * at_most(cap, left.div_ceil(cores * u64::from(e.period)))
     }
 
     // The share of slot i in what delays slot k: nothing where i is k or empty.
@@ -43,12 +44,7 @@ impl Rise {
         match self.plan.held(i) {
             Some(e) if i != k => {
                 let cap = self.caps[i.index()][k.index()];
-                work_ahead(
-                    u64::from(self.plan.cores),
-                    e,
-                    cap,
-                    self.bound(k) + self.bound(i),
-                )
+                self.work_ahead(e, cap, self.bound(k) + self.bound(i))
             }
             _ => 0,
         }
