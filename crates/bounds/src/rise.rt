@@ -33,7 +33,7 @@ impl Rise {
     fn new<O: Order>(order: &O, plan: &Plan) -> Self
         ensures plan { result.plan ≡ plan.now }
         ensures bounds { result.bounds ≡ first_bounds_of plan.now }
-        ensures caps { Current (O.Order.most order.now) plan.now result.bounds result.caps }
+        ensures caps { Current (O.Order.means order.now).most plan.now result.bounds result.caps }
     {
         let bounds = first_bounds(plan);
         Rise {
@@ -64,7 +64,7 @@ impl Rise {
     fn raise<O: Order>(&mut self, order: &O, k: Slot, bound: u32)
         ensures plan { self.new.plan ≡ self.old.plan }
         ensures bounds { self.new.bounds ≡ slice_set self.old.bounds k.number bound }
-        ensures caps { Current (O.Order.most order.now) self.old.plan self.old.bounds self.old.caps → Current (O.Order.most order.now) self.old.plan self.new.bounds self.new.caps }
+        ensures caps { Current (O.Order.means order.now).most self.old.plan self.old.bounds self.old.caps → Current (O.Order.means order.now).most self.old.plan self.new.bounds self.new.caps }
     {
         self.caps[k.index()] = caps_of(order, &self.plan, k, bound);
         self.bounds[k.index()] = bound;
@@ -81,7 +81,7 @@ impl Rise {
 
 // The least bounds that meet the equation and every deadline, if there are any.
 pub fn least_bounds<O: Order>(order: &O, plan: &Plan) -> Result<[u32; 16], Passed>
-    ensures { Told (O.Order.most order.now) plan.now result }
+    ensures { Told (O.Order.means order.now).most plan.now result }
 {
     let mut rise = Rise::new(order, plan);
     // the slots whose right side may be above their bound

@@ -10,11 +10,12 @@ use Rattle.controller.specs.declared.refusal.Refusal.{Refusal}
 use Rattle.controller.specs.declared.refusal.Refusal.TheVariants.{Empty, NotAdmitted}
 use Rattle.controller.specs.declared.tables.Tables.{Tables}
 use Rattle.controller.specs.Checks.{Checked, slot_held, admitted}
-use Rattle.controller.specs.State.{Meaning, meaning, task_in, SomeOpen, held_in}
+use Rattle.order.specs.Laws.{Meaning}
+use Rattle.controller.specs.State.{task_in, SomeOpen, held_in}
 
 -- some order: most checks pass or fail whatever the order
 pub no_order : Meaning
-no_order = meaning (λ _ _ _. true) (λ _ _ _. None)
+no_order = record { goes = λ _ _ _. true; most = λ _ _ _. None }
 
 the_job : (x : Option Job) → is_some x ≡ true → (j : Job) × (x ≡ Some j)
 the_job (Some j) e = (j, refl)

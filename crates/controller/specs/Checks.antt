@@ -13,7 +13,8 @@ use Rattle.controller.specs.declared.refusal.Refusal.{Refusal}
 use Rattle.controller.specs.declared.refusal.Refusal.TheVariants.{NoSlot, JobOpen, Occupied, Table, Time, Empty, NoNode, NoBounds, ShortList, TickOpen, NotAdmitted, TooSoon, StillOpen, NoTick, Outcomes, Outcome}
 use Rattle.controller.specs.declared.tables.Tables.{Tables}
 use Rattle.controller.specs.Calls.{Call, Add, Remove, Retime, Admit, Release, OpenTick, CloseTick, Share}
-use Rattle.controller.specs.State.{Meaning, cores, task_in, job_in, waited_in, period, HoldsTask, HasJob, Ticking, SomeOpen, NoneOpen}
+use Rattle.order.specs.Laws.{Meaning}
+use Rattle.controller.specs.State.{cores, task_in, job_in, waited_in, period, HoldsTask, HasJob, Ticking, SomeOpen, NoneOpen}
 
 pub data Check : Type 0 where
   slot_exists : (slot : ℕ) → Check

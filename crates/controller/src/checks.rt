@@ -2,7 +2,8 @@
 ghost use Rattle.std.specs.Prelude.{◌≡◌, ℕ, ◌≤◌, List, [], ◌∷◌, length, Some, None, Ok, Err};
 ghost use Rattle.controller.specs.Checks.{Check, Checked, Decided, TurnedAway, slot_exists as slot_is_one, no_tick_open, no_job_open, slot_free, slot_held, admitted, period_over, earlier_ended, room_for_bounds, room_for_cores, bounds_exist};
 ghost use Rattle.controller.specs.declared.refusal.Refusal.TheVariants.{NoSlot};
-ghost use Rattle.controller.specs.State.{Meaning, cores, task_in, NoneOpen};
+ghost use Rattle.order.specs.Laws.{Meaning};
+ghost use Rattle.controller.specs.State.{cores, task_in, NoneOpen};
 
 use crate::refusal::Refusal;
 use crate::tables::Tables;

@@ -2,7 +2,7 @@
 ghost use Rattle.std.specs.Prelude.{◌≡◌};
 ghost use Rattle.controller.specs.Does.{AddDoes, RemoveDoes, RetimeDoes};
 ghost use Rattle.controller.specs.Effects.{Edited, Put};
-ghost use Rattle.controller.specs.State.{Meaning};
+ghost use Rattle.order.specs.Laws.{Meaning};
 
 use crate::refusal::Refusal;
 use crate::tables::Tables;

@@ -3,7 +3,6 @@ ghost use Rattle.std.specs.Prelude.{◌≡◌, ◌<◌, true, length, pos, ◌-�
 ghost use Rattle.sets.specs.Sets.{Marks};
 ghost use Rattle.sets.specs.Tests.{Says};
 ghost use Rattle.dispatch.specs.Tables.{task_at, job_at};
-ghost use Rattle.controller.specs.State.{meaning};
 ghost use Rattle.controller.specs.Ahead.{AheadAmong};
 ghost use Rattle.controller.specs.Steps.{entrant, EntrantsAre, Precedence};
 
@@ -48,7 +47,7 @@ fn entrants_of(tasks: &[Option<Task>; 16], jobs: &[Option<Job>; 16]) -> [Option<
 
 // Whether the first job goes ahead of the other: it was released as many ticks after it as it is younger.
 fn goes_first<O: Order>(order: &O, first: Entrant, other: Entrant) -> bool
-    ensures { result ≡ O.Order.goes order.now first.party other.party (pos other.age -ℤ pos first.age) }
+    ensures { result ≡ (O.Order.means order.now).goes first.party other.party (pos other.age -ℤ pos first.age) }
 {
     order.ahead(
         first.party,
@@ -59,7 +58,7 @@ fn goes_first<O: Order>(order: &O, first: Entrant, other: Entrant) -> bool
 
 // Whether the job of slot i goes ahead of the job of slot k; a job goes ahead of itself.
 fn is_ahead<O: Order>(order: &O, entrants: &[Option<Entrant>; 16], i: Slot, k: Slot) -> bool
-    ensures { Says result (AheadAmong (O.Order.goes order.now) entrants.now i.number k.number) }
+    ensures { Says result (AheadAmong (O.Order.means order.now).goes entrants.now i.number k.number) }
 {
     if i == k {
         return true;
@@ -72,7 +71,7 @@ fn is_ahead<O: Order>(order: &O, entrants: &[Option<Entrant>; 16], i: Slot, k: S
 
 // The slots whose jobs the job of slot i goes ahead of.
 fn slots_behind<O: Order>(order: &O, entrants: &[Option<Entrant>; 16], i: Slot) -> BitSet
-    ensures { Marks (AheadAmong (O.Order.goes order.now) entrants.now i.number) result }
+    ensures { Marks (AheadAmong (O.Order.means order.now).goes entrants.now i.number) result }
 {
     BitSet::select(16, |k| is_ahead(order, entrants, i, Slot::at(k)))
 }
@@ -83,7 +82,7 @@ pub(crate) fn precedence<O: Order>(
     tasks: &[Option<Task>; 16],
     jobs: &[Option<Job>; 16],
 ) -> [BitSet; 16]
-    ensures { Precedence (meaning (O.Order.goes order.now) (O.Order.most order.now)) tasks.now jobs.now result }
+    ensures { Precedence (O.Order.means order.now) tasks.now jobs.now result }
 {
     let entrants = entrants_of(tasks, jobs);
     Slot::map_all(|slot| slots_behind(order, &entrants, slot))

@@ -5,7 +5,8 @@ ghost use Rattle.dispatch.specs.Tables.{task_at};
 ghost use Rattle.controller.specs.Does.{Opened, ReleaseDoes, CloseDoes};
 ghost use Rattle.controller.specs.Effects.{one_more};
 ghost use Rattle.controller.specs.Steps.{BoundsKept, SpotsKept};
-ghost use Rattle.controller.specs.State.{Meaning, held_in};
+ghost use Rattle.order.specs.Laws.{Meaning};
+ghost use Rattle.controller.specs.State.{held_in};
 
 use crate::checks::slot_exists;
 use crate::refusal::Refusal;
@@ -53,7 +54,7 @@ impl Tables {
 
     // The least bounds of the tasks under an order, or a slot that passes its deadline.
     pub(crate) fn bounds_under<O: Order>(&self, order: &O) -> Result<[u32; 16], Passed>
-        ensures { Told (O.Order.most order.now) self.now.plan result }
+        ensures { Told (O.Order.means order.now).most self.now.plan result }
     {
         least_bounds(order, &self.plan)
     }

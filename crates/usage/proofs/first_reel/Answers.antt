@@ -1,12 +1,12 @@
 use Rattle.std.proofs.Common.{[], ap, ◌∙◌}
 use Rattle.controller.specs.Calls.{Add, Admit}
-use Rattle.controller.specs.State.{Meaning, meaning}
+use Rattle.order.specs.Laws.{Meaning}
 use Rattle.usage.proofs.Onward.{onward}
 use Rattle.usage.proofs.first_reel.Goals as goal
 
 pub returns : goal.returns
 returns g c =
-    let means : g.row.O.Denot → Meaning = λ x. meaning (g.O.Order.goes x) (g.O.Order.most x) in
+    let means : g.row.O.Denot → Meaning = g.O.Order.means in
     let o = means c.args.order in
     let opening = c.in_ok-scanner.ensures in
     let first = opening.opened.0 in

@@ -10,7 +10,7 @@ pub loop-k-init : goal.loop-k-init
 loop-k-init g c = record {
   plan = c.new-rise.ensures.plan;
   sound =
-      first_sound (g.O.Order.most c.args.order.now) c.args.plan.now c.new-rise.result.bounds c.new-rise.result.caps
+      first_sound (g.O.Order.means c.args.order.now).most c.args.plan.now c.new-rise.result.bounds c.new-rise.result.caps
       c.tasks-pending.result c.new-rise.ensures.bounds c.new-rise.ensures.caps c.tasks-pending.ensures;
 }
 
@@ -41,7 +41,7 @@ loop-k-smaller g c =
 
 pub loop-k-preserved : goal.loop-k-preserved
 loop-k-preserved g c =
-    let most = g.O.Order.most c.args.order.now in
+    let most = (g.O.Order.means c.args.order.now).most in
     let now = c.loop-k.invariant in
     let rise = c.raise.new.self in
     let step =

@@ -5,7 +5,7 @@ use Rattle.bounds.proofs.rise.least_bounds.Given as goal
 abbrev pub invariant-loop-k : goal.invariant-loop-k
 invariant-loop-k g l = record {
   plan : l.rise.plan ≡ l.plan;
-  sound : Sound (g.O.Order.most l.order) l.plan l.rise.bounds l.rise.caps l.pending;
+  sound : Sound (g.O.Order.means l.order).most l.plan l.rise.bounds l.rise.caps l.pending;
 }
 
 abbrev pub decreases-loop-k : goal.decreases-loop-k

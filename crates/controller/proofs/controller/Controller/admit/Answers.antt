@@ -3,7 +3,6 @@ use Rattle.std.proofs.lemmas.Result.{err_from_is_err_and}
 use Rattle.controller.specs.declared.refusal.Refusal.TheVariants.{NoBounds}
 use Rattle.controller.specs.Calls.{Admit}
 use Rattle.controller.specs.Does.{Does}
-use Rattle.controller.specs.State.{meaning}
 use Rattle.controller.proofs.Histories.{kept}
 use Rattle.controller.proofs.Plans.{equal_answers}
 use Rattle.controller.proofs.controller.Controller.admit.Goals as goal
@@ -13,7 +12,7 @@ returns-in_err-may_admit g c =
     let order = c.args.self.now.order in
     let t = c.args.self.now.tables in
     let list = c.args.list.now in
-    let o = meaning (g.O.Order.goes order) (g.O.Order.most order) in
+    let o = g.O.Order.means order in
     let e = c.in_err-may_admit.field-0.0 in
     let p = err_from_is_err_and c.from_residual.result c.from_residual.ensures.1 in
     let does : Does o t (Admit list) (Err e, list) t =
@@ -30,7 +29,7 @@ returns-in_err-bounds g c =
     let order = c.args.self.now.order in
     let t = c.args.self.now.tables in
     let list = c.args.list.now in
-    let o = meaning (g.O.Order.goes order) (g.O.Order.most order) in
+    let o = g.O.Order.means order in
     let may = c.in_ok-may_admit.ensures in
     let p = err_from_is_err_and c.from_residual-in_err-bounds.result c.from_residual-in_err-bounds.ensures.1 in
     let does : Does o t (Admit list) (Err NoBounds, list) t =
@@ -53,7 +52,7 @@ returns g c =
     let list = c.args.list.now in
     let after = c.keep_bounds.new.list in
     let n = c.keep_bounds.result in
-    let o = meaning (g.O.Order.goes order) (g.O.Order.most order) in
+    let o = g.O.Order.means order in
     let may = c.in_ok-may_admit.ensures in
     let k = c.keep_bounds.ensures in
     let does : Does o t (Admit list) (Ok n, after) u = (
