@@ -24,7 +24,8 @@ use Rattle.controller.specs.declared.tables.Tables.{Tables}
 use Rattle.controller.specs.Book.{Entry, ToldTask, HoldsTold, Line, EndedInTime, one_seen, bit_is_set, entered}
 use Rattle.controller.specs.Calls.{CloseTick}
 use Rattle.controller.specs.Effects.{one_more, TickClosed}
-use Rattle.controller.specs.State.{Meaning, cores, table_in, task_in, job_in, waited_in}
+use Rattle.order.specs.Laws.{Meaning}
+use Rattle.controller.specs.State.{cores, table_in, task_in, job_in, waited_in}
 use Rattle.controller.proofs.Cores.{turns_bring}
 use Rattle.controller.proofs.Editing.{some_not_none}
 use Rattle.controller.proofs.Epoch.{table_or, tables_of, system, Since, SameJob, SameSlot, Parts, parts, Running, Resting, EpochBy, Epoch, PlacedBy, Sound}

@@ -18,7 +18,8 @@ use Rattle.dispatch.specs.Tables.{task_at, job_at, ReadyIn, KeptIn}
 use Rattle.controller.specs.declared.tables.Tables.{Tables}
 use Rattle.controller.specs.Book.{Entry, Line, EndedInTime}
 use Rattle.controller.specs.Promise.{Exact, AsTold}
-use Rattle.controller.specs.State.{Meaning, cores, task_in, deadline, GoesAhead}
+use Rattle.order.specs.Laws.{Meaning}
+use Rattle.controller.specs.State.{cores, task_in, deadline, GoesAhead}
 
 -- the table of a slot; what it is where the slot is empty does not matter
 abbrev pub table_or : Option Task → Table

@@ -21,7 +21,8 @@ use Rattle.dispatch.specs.declared.job.Job.{Job}
 use Rattle.dispatch.specs.Tables.{task_at, job_at}
 use Rattle.controller.specs.declared.tables.Tables.{Tables}
 use Rattle.controller.specs.Book.{Entry, Line, OpenInTime, InTime}
-use Rattle.controller.specs.State.{Meaning, table_of}
+use Rattle.order.specs.Laws.{Meaning}
+use Rattle.controller.specs.State.{table_of}
 use Rattle.controller.proofs.Epoch.{table_or, tables_of, system, SameSlot, parts, waited_at, EpochBy, Sound}
 
 -- the order keeps its laws

@@ -21,7 +21,8 @@ use Rattle.controller.specs.Book.{Entry, ToldTask, HoldsTold, Line, EndedInTime,
 use Rattle.controller.specs.Calls.{Release}
 use Rattle.controller.specs.Effects.{SameTasks, Admitted, Released, TickOpened}
 use Rattle.controller.specs.Promise.{Exact, AsTold}
-use Rattle.controller.specs.State.{Meaning, cores, table_of, table_in, task_in, job_in, waited_in, period, deadline, NoneOpen}
+use Rattle.order.specs.Laws.{Meaning}
+use Rattle.controller.specs.State.{cores, table_of, table_in, task_in, job_in, waited_in, period, deadline, NoneOpen}
 use Rattle.controller.proofs.Editing.{one_some, some_not_none, here_not, here_same, no_entries, at_new, at_other}
 use Rattle.controller.proofs.Epoch.{system, Since, SameSlot, Parts, parts, waited_at, EpochBy, Epoch, PlacedBy, Sound}
 

@@ -23,7 +23,8 @@ use Rattle.controller.specs.declared.tables.Tables.{Tables}
 use Rattle.controller.specs.Book.{Line, book}
 use Rattle.controller.specs.Does.{ShareDoes}
 use Rattle.controller.specs.Promise.{ApartAfterNo}
-use Rattle.controller.specs.State.{Meaning, cores, job_in, waited_in, GoesAhead}
+use Rattle.order.specs.Laws.{Meaning}
+use Rattle.controller.specs.State.{cores, job_in, waited_in, GoesAhead}
 use Rattle.controller.proofs.Editing.{one_some, some_not_none}
 use Rattle.controller.proofs.Epoch.{table_or, tables_of, system, parts, Running, EpochBy, Sound}
 use Rattle.controller.proofs.Histories.{history_sound}

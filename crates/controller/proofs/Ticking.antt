@@ -28,7 +28,8 @@ use Rattle.dispatch.specs.Tables.{task_nodes, task_arcs, ReadyIn, KeptIn}
 use Rattle.dispatch.proofs.Facts.{places_once, conserving}
 use Rattle.controller.specs.declared.tables.Tables.{Tables}
 use Rattle.controller.specs.Book.{Entry, Line}
-use Rattle.controller.specs.State.{Meaning, cores, task_in, job_in, waited_in, party, deadline, GoesFirst, GoesAhead}
+use Rattle.order.specs.Laws.{Meaning}
+use Rattle.controller.specs.State.{cores, task_in, job_in, waited_in, party, deadline, GoesFirst, GoesAhead}
 use Rattle.controller.proofs.Cores.{place_of, places, each_place, few_places, all_places, no_place, one_place}
 use Rattle.controller.proofs.Editing.{one_some, some_not_none}
 use Rattle.controller.proofs.Epoch.{table_or, system, SameJob, SameSlot, parts, Running, PlacedBy, Sound}

@@ -14,7 +14,8 @@ use Rattle.jobs.specs.Sharing.{MayShare}
 use Rattle.sets.specs.Tests.{Says}
 use Rattle.dispatch.specs.Closing.{Closed}
 use Rattle.controller.specs.declared.tables.Tables.{Tables}
-use Rattle.controller.specs.State.{Meaning, cores, task_in, Ticking, GoesAhead, held_in}
+use Rattle.order.specs.Laws.{Meaning}
+use Rattle.controller.specs.State.{cores, task_in, Ticking, GoesAhead, held_in}
 
 -- one tick more since a release, as far as a longest period
 abbrev pub one_more : Option ℕ → Option ℕ
