@@ -3,4 +3,5 @@ pub mod Entries
 pub mod Lines
 pub mod Numerals
 pub mod Parsed
+pub mod Settings
 pub mod Statements
