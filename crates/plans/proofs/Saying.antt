@@ -40,10 +40,19 @@ module _ (ws : Slice) where
 
   -- regions
 
+  pub home_unsaid : length ws ≡ 4 → ((n : ℕ) → Counts 63 (nth ws 1) n → ⊥) → (r : Region) → RegionSaid (texts ws) r → ⊥
+  home_unsaid l nay Top s = omega (arith, as_long ws _ s)
+  home_unsaid l nay (Branch h b) s =
+      nay h (subst (λ (v : List Word). Counts 63 (get_or v 1 []) h) (sym s.4 ∙ spelled_4 ws l) s.5.2)
+
   pub branch_unsaid : length ws ≡ 4 → ((n : ℕ) → Counts 255 (nth ws 3) n → ⊥) → (r : Region) → RegionSaid (texts ws) r → ⊥
   branch_unsaid l nay Top s = omega (arith, as_long ws _ s)
   branch_unsaid l nay (Branch h b) s =
       nay b (subst (λ (v : List Word). Counts 255 (get_or v 3 []) b) (sym s.4 ∙ spelled_4 ws l) s.5.3)
+
+  pub branch_said : (h b : ℕ) → length ws ≡ 4 → nth ws 0 ≡ codes "in" → nth ws 2 ≡ codes "branch" → Counts 63 (nth ws 1) h → Counts 255 (nth ws 3) b
+      → RegionSaid (texts ws) (Branch h b)
+  branch_said h b l first second j k = (nth ws 0, nth ws 1, nth ws 2, nth ws 3, spelled_4 ws l, (first, second, j, k))
 
   -- closings
 
@@ -158,10 +167,42 @@ module _ (ws : Slice) where
 
   -- tables and tasks
 
+  pub times_told : (period deadline : ℕ) → length ws ≡ 4 → nth ws 0 ≡ codes "period" → nth ws 2 ≡ codes "deadline"
+      → Counts greatest_time (nth ws 1) period → Counts greatest_time (nth ws 3) deadline
+      → TableSaid (texts ws) (timed (record { period = period; deadline = deadline }))
+  times_told period deadline l first second j k = (
+    nth ws 0,
+    nth ws 1,
+    nth ws 2,
+    nth ws 3,
+    spelled_4 ws l,
+    record { first = first; second = second; period_said = j; deadline_said = k },
+  )
+
+  pub table_untold : (length ws ≡ 2 → nth ws 0 ≡ codes "file" → ⊥) → (length ws ≡ 4 → nth ws 0 ≡ codes "period" → nth ws 2 ≡ codes "deadline" → ⊥)
+      → (t : ToldTable) → TableSaid (texts ws) t → ⊥
+  table_untold no_file no_times (timed t) s =
+      let l = as_long ws _ s.4 in
+      let e = sym (spelled_4 ws l) ∙ s.4 in
+      no_times l (ap (λ (v : List Word). get_or v 0 []) e ∙ s.5.first) (ap (λ (v : List Word). get_or v 2 []) e ∙ s.5.second)
+  table_untold no_file no_times (filed f) s =
+      let l = as_long ws _ s.2 in
+      no_file l (ap (λ (v : List Word). get_or v 0 []) (sym (spelled_2 ws l) ∙ s.2) ∙ s.3.first)
+
+  pub period_untold : length ws ≡ 4 → ((n : ℕ) → Counts greatest_time (nth ws 1) n → ⊥) → (t : ToldTable) → TableSaid (texts ws) t → ⊥
+  period_untold l nay (timed t) s =
+      nay t.period (subst (λ (v : List Word). Counts greatest_time (get_or v 1 []) t.period) (sym s.4 ∙ spelled_4 ws l) s.5.period_said)
+  period_untold l nay (filed f) s = omega (arith, as_long ws _ s.2)
+
   pub deadline_untold : length ws ≡ 4 → ((n : ℕ) → Counts greatest_time (nth ws 3) n → ⊥) → (t : ToldTable) → TableSaid (texts ws) t → ⊥
   deadline_untold l nay (timed t) s =
       nay t.deadline (subst (λ (v : List Word). Counts greatest_time (get_or v 3 []) t.deadline) (sym s.4 ∙ spelled_4 ws l) s.5.deadline_said)
   deadline_untold l nay (filed f) s = omega (arith, as_long ws _ s.2)
+
+  pub task_unsaid_slot : 3 ≤ length ws → ((n : ℕ) → Counts 15 (nth ws 2) n → ⊥) → (s : Said) → Makes (codes "task" ∷ texts ws) s → ⊥
+  task_unsaid_slot l nay =
+      only_task (texts ws)
+      (λ name slot t k. nay slot (subst (λ (v : List Word). Counts 15 (get_or v 2 []) slot) (sym k.words_are ∙ opened_3 ws l) k.slot_said))
 
   pub task_said : (slot : ℕ) (t : ToldTable) → 3 ≤ length ws → nth ws 1 ≡ codes "slot" → Counts 15 (nth ws 2) slot → TableSaid (behind ws 3) t
       → Makes (codes "task" ∷ texts ws) (task (nth ws 0) slot t)

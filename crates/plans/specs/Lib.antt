@@ -1,5 +1,6 @@
 pub mod Drafts
 pub mod Entries
+pub mod Expectations
 pub mod Lines
 pub mod Numerals
 pub mod Parsed

@@ -11,7 +11,7 @@ use crate::wanted::Wanted;
 use crate::words::words_of;
 use std::alloc::{AllocError, Global};
 
-// What has been read so far. The latest task is open for nodes and arcs while its table is written out.
+// What has been read so far. Nodes and arcs go into the table of the last entry, where that is written out.
 #[derive(Drop)]
 pub(crate) struct Draft<'a> {
     pub heap: Global,

@@ -1,4 +1,7 @@
 // What is expected where a line of a plan goes wrong.
+ghost use Rattle.std.specs.Prelude.{Some};
+ghost use Rattle.plans.specs.Expectations.{wanted_words};
+
 use std::fmt;
 
 #[derive(Clone, Copy, Drop, Debug, PartialEq, Eq)]
@@ -27,6 +30,8 @@ pub enum Wanted {
 }
 
 impl fmt::Display for Wanted {
+    ghost output = { λ wanted. Some (wanted_words wanted) };
+
     fn fmt<W: fmt::Write>(&self, f: &mut fmt::Formatter<W>) -> fmt::Result {
         f.write_str(match self {
             Wanted::Statement => "a statement",
