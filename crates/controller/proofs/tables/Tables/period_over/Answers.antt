@@ -12,7 +12,7 @@ returns-in-Some c = λ o. (
     waited = c.in-Some.ticks;
     since = read_at c.args.self.now.waited c.index.result c.args.slot.number _ None (Some c.in-Some.ticks) c.index.ensures.value
         (omega (arith, c.index.ensures.in_range, c.args.self.now.sized.2)) c.in-Some.is;
-    short = omega (arith, c.if-ticks-period.true, ap (λ (t : Timing). t.period) c.timing-period.ensures);
+    short = omega (arith, ap (λ (t : Timing). t.period) c.timing-period.ensures);
     left = ap (λ (t : Timing). t.period - c.in-Some.ticks) c.timing-period.ensures;
   },
   refl,
