@@ -1,11 +1,9 @@
 -- The caps that are kept are the order's.
-use Rattle.std.proofs.Common.{◌≡◌, ℕ, ◌<◌, ◌⊎◌, List, [], length, get_or, set, Some, Option, sym, ◌∙◌, subst, inl, inr, arith}
-use Rattle.std.proofs.lemmas.Bool.{cases_eq}
-use Rattle.std.proofs.lemmas.List.{get_or-set_same, get_or-set_other, length-set}
+use Rattle.std.proofs.Common.{◌≡◌, ℕ, ◌<◌, List, Some, Option}
 use Rattle.bounds.specs.declared.plan.Demand.{Demand}
 use Rattle.bounds.specs.declared.plan.Plan.{Plan}
-use Rattle.bounds.specs.Equation.{Caps, held, bound, cap_of, side, right_side}
-use Rattle.bounds.specs.Steps.{CapsOf, Current, kept}
+use Rattle.bounds.specs.Equation.{Caps, held, cap_of, side, right_side}
+use Rattle.bounds.specs.Steps.{Current, kept}
 use Rattle.bounds.proofs.Sides.{side_same}
 
 module _ (most : Caps) (p : Plan) (R : List ℕ) (C : List (List (Option ℕ))) (now : Current most p R C) where

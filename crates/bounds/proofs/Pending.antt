@@ -26,7 +26,7 @@ count_less s r k l h w =
     gone (inl e) = omega arith
     gone (inr e) = absurd (w.gone e)
 
--- t has every slot below 16 but those of which no job waits for this one
+-- what is pending, and t, where t has each slot that the row does not cap at 0
 pub reopened_union : (s t : BitSet) (row : List (Option ℕ)) → ((k : ℕ) → Has t k → k < 16) → ((k : ℕ) → k < 16 → Has t k ⊎ (get_or row k None ≡ Some 0))
     → Reopened s row (s ∪ t)
 reopened_union s t row small told =

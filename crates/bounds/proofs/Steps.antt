@@ -9,7 +9,7 @@ use Rattle.sets.specs.declared.bit_set.BitSet.{BitSet}
 use Rattle.bounds.specs.declared.plan.Demand.{Demand}
 use Rattle.bounds.specs.declared.plan.Plan.{Plan}
 use Rattle.bounds.specs.declared.rise.Passed.{Passed}
-use Rattle.bounds.specs.Equation.{Caps, held, bound, party_of, cap_of, first_bounds_of, Least, Answers, Reached, Passes, Told}
+use Rattle.bounds.specs.Equation.{Caps, held, bound, party_of, cap_of, first_bounds_of, Least, Reached, Passes, Told}
 use Rattle.bounds.specs.Equation.Reached.{begun, raised}
 use Rattle.bounds.specs.Steps.{Holds, weight, count, SettledAt, Moves, Current, kept, Reopened, Sound}
 use Rattle.bounds.proofs.Untouched.{side_low}

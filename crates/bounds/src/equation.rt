@@ -23,6 +23,7 @@ impl Rise {
     }
 
     // What the jobs of a task use ahead of one job, where its bound and the job's add up to the window.
+    #[tactic(auto, using(crate::proofs::Rounding::up_is))]
     fn work_ahead(&self, e: Demand, cap: Option<u64>, window: u64) -> u64
         requires { window < 2 ^ 33 }
         ensures value { result ≡ work_ahead_of self.now.plan.cores e.total e.period cap window }
@@ -59,6 +60,7 @@ impl Rise {
     }
 
     // The right side for the task d of slot k.
+    #[tactic(auto, using(crate::proofs::Rounding::up_is))]
     pub(crate) fn right_side(&self, k: Slot, d: Demand) -> u64
         ensures { result ≡ side (kept self.now.caps k.number) self.now.plan self.now.bounds k.number d }
     {

@@ -35,15 +35,16 @@ impl Demand {
     {
         let timed = (1..=period).contains(&deadline) && period <= 1_000_000;
         let sized = (1..=total).contains(&longest) && total <= 4_194_240;
-        if !timed || !sized {
-            return None;
+        if timed && sized {
+            Some(Demand {
+                period,
+                deadline,
+                longest,
+                total,
+            })
+        } else {
+            None
         }
-        Some(Demand {
-            period,
-            deadline,
-            longest,
-            total,
-        })
     }
 
     // What an order may know of the task, in that slot.

@@ -1,4 +1,4 @@
-use Rattle.std.proofs.Common.{◌≡◌, ℕ, ◌≤◌, Some, None, Option, refl, ap, arith, rules}
+use Rattle.std.proofs.Common.{Some, None, Option, ap, arith, rules}
 use Rattle.std.specs.Option.{IsSome}
 use Rattle.table.specs.declared.records.Timing.{Timing}
 use Rattle.bounds.specs.declared.plan.Demand.{Demand}

@@ -1,8 +1,7 @@
-use Rattle.std.proofs.Common.{ℕ, List, [], get_or, Ok, Err, Some, None, Option, sym, ap, ◌∙◌, subst, rules}
+use Rattle.std.proofs.Common.{ℕ, [], get_or, Ok, Err, Some, None, ◌∙◌, subst, rules}
 use Rattle.std.proofs.lemmas.Result.{err_from_is_err_and}
-use Rattle.sets.specs.declared.bit_set.BitSet.{BitSet}
 use Rattle.bounds.specs.declared.plan.Plan.{Plan}
-use Rattle.bounds.specs.Steps.{Moves, kept, Current, Reopened}
+use Rattle.bounds.specs.Steps.{Current, Reopened}
 use Rattle.bounds.proofs.Steps.{moves_at, first_sound, none_pending, stays, stays_less, rises, rises_less, refused}
 use Rattle.bounds.proofs.rise.least_bounds.Goals as goal
 
