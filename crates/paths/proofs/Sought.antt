@@ -1,10 +1,9 @@
 -- The paths from one node, by the nodes to which they step first.
-use Rattle.std.proofs.Common.{◌≡◌, ℕ, zero, suc, ◌+◌, ◌/◌, ◌^◌, ◌<◌, ◌≤◌, ◌⊎◌, List, get_or, Some, None, Option, sym, refl, ap, subst, inl, inr, arith}
+use Rattle.std.proofs.Common.{◌≡◌, ℕ, ◌+◌, ◌⊎◌, List, get_or, Some, None, Option, sym, refl, ap, subst, inl, inr, arith}
 use Rattle.std.proofs.lemmas.Bool.{cases_eq}
 use Rattle.table.specs.declared.records.Node.{Node}
 use Rattle.sets.specs.declared.bit_set.BitSet.{BitSet}
 use Rattle.sets.specs.Sets.{Has, Without}
-use Rattle.sets.proofs.Bits.{bit, zero_or_one}
 use Rattle.task.specs.Graph.{IsNode}
 use Rattle.paths.specs.Algebra.{LawfulAlgebra}
 use Rattle.paths.specs.Paths.{Path, end, step, first, Leads, Upwards, ChoiceOver, node_weight, path_value}
@@ -126,38 +125,3 @@ module _ {V : Type 0} {choice extension : V → V → V} (law : LawfulAlgebra V 
         go : (p : Path) → (Leads Joins ns goals n p × Past left p) ⊎ ((p ≡ end n) × Has goals n) → Leads Joins ns goals n p × Past left p
         go p (inl h) = h
         go p (inr h) = absurd (no-goal h.1)
-
--- how many of the bits below m are set
-unfoldable pub bits_below : ℕ → ℕ → ℕ
-bits_below zero x = 0
-bits_below (suc m) x = bits_below m x + bit x m
-
-module _ (s r : BitSet) (n : ℕ) (inside : Has s n) (without : Without s n r) where
-  bit_falls : (k : ℕ) → bit r.bits k ≤ bit s.bits k
-  bit_falls k = go (zero_or_one (r.bits / 2 ^ k))
-    where
-      go : (bit r.bits k ≡ 0) ⊎ (bit r.bits k ≡ 1) → bit r.bits k ≤ bit s.bits k
-      go (inl e) = omega arith
-      go (inr e) = omega (arith, without.no_more k e)
-
-  bits_fall : (m : ℕ) → bits_below m r.bits ≤ bits_below m s.bits
-  unfolding bits_below
-  bits_fall zero = omega arith
-  bits_fall (suc m) = omega (arith, bits_fall m, bit_falls m)
-
-  -- a set loses a number
-  pub bits_drop : (m : ℕ) → n < m → bits_below m r.bits < bits_below m s.bits
-  unfolding bits_below
-  bits_drop zero l = absurd (omega arith)
-  bits_drop (suc m) l = go (cases_eq n m) (λ h. bits_drop m h)
-    where
-      go : (n ≡ m) ⊎ (n ≡ m → ⊥) → (n < m → bits_below m r.bits < bits_below m s.bits) → bits_below m r.bits + bit r.bits m < bits_below m s.bits + bit s.bits m
-      go (inl e) later =
-          let set : bit s.bits m ≡ 1 = subst (λ (x : ℕ). bit s.bits x ≡ 1) e inside in
-          let clear : bit r.bits m ≡ 0 = cleared (zero_or_one (r.bits / 2 ^ m)) in
-          omega (arith, bits_fall m)
-        where
-          cleared : (bit r.bits m ≡ 0) ⊎ (bit r.bits m ≡ 1) → bit r.bits m ≡ 0
-          cleared (inl z) = z
-          cleared (inr h) = absurd (without.gone (subst (λ (x : ℕ). Has r x) (sym e) h))
-      go (inr d) later = omega (arith, later (grind arith), bit_falls m)
