@@ -14,8 +14,7 @@ pub(crate) fn settle(nodes: &[Node]) -> Picks
 {
     let mut weights = Weights::new();
     let mut picks: Picks = [0; 64];
-    for v in (0..nodes.len()).rev() {
-        let node = &nodes[v];
+    for (v, node) in nodes.iter().enumerate().rev() {
         let (pick, weight) = weights.heaviest(v);
         picks[v] = pick as u8;
         let gain = u64::from(node.time) + weight;
