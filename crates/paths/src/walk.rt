@@ -27,9 +27,9 @@ fn set_of(nodes: &[Node], arcs: &[Arc]) -> ArcSet
 struct PathSearch<'a, P: PathAlgebra> {
     algebra: &'a P,
     nodes: &'a [Node],
-    after: ArcSet,
+    after: &'a ArcSet,
     goals: BitSet,
-    ghost upwards: { Upwards nodes.now (HasArc after) },
+    ghost upwards: { Upwards nodes.now (HasArc after.now) },
 }
 
 impl<'a, P: PathAlgebra> PathSearch<'a, P> {
@@ -44,15 +44,13 @@ impl<'a, P: PathAlgebra> PathSearch<'a, P> {
     fn best_from(&self, n: usize, found: BitSet, values: &[P::Value]) -> Option<P::Value>
         requires node { IsNode self.now.nodes.now n }
         requires room { length self.now.nodes.now ≤ length values.now }
-        requires known { Known (P.choice self.now.algebra.now) (P.extension self.now.algebra.now) (P.weight self.now.algebra.now) self.now.nodes.now (HasArc self.now.after) self.now.goals (n + 1) found values.now }
-        ensures { BestOver (P.choice self.now.algebra.now) (path_value (P.extension self.now.algebra.now) (P.weight self.now.algebra.now) self.now.nodes.now) (Leads (HasArc self.now.after) self.now.nodes.now self.now.goals n) result }
+        requires known { Known (P.choice self.now.algebra.now) (P.extension self.now.algebra.now) (P.weight self.now.algebra.now) self.now.nodes.now (HasArc self.now.after.now) self.now.goals (n + 1) found values.now }
+        ensures { BestOver (P.choice self.now.algebra.now) (path_value (P.extension self.now.algebra.now) (P.weight self.now.algebra.now) self.now.nodes.now) (Leads (HasArc self.now.after.now) self.now.nodes.now self.now.goals n) result }
     {
         let weight = self.algebra.weigh(n, &self.nodes[n]);
         let mut best = None;
-        for v in self.after.row(n) {
-            if found.has(v) {
-                best = Some(self.joined(best, self.algebra.extend(weight, values[v])));
-            }
+        for v in self.after.row(n).common(found) {
+            best = Some(self.joined(best, self.algebra.extend(weight, values[v])));
         }
         if self.goals.has(n) {
             best = Some(self.joined(best, weight));
@@ -77,7 +75,7 @@ pub fn walk<P: PathAlgebra>(
     let search = PathSearch {
         algebra,
         nodes,
-        after,
+        after: &after,
         goals,
     };
     let mut found = BitSet::EMPTY;
