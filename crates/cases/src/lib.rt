@@ -7,7 +7,7 @@ ghost use Rattle.cases.specs.Cases.{CasesHold};
 pub fn worked_cases_hold()
     ensures { CasesHold }
 {
-    let _ = workload::theorems::example_stands();
+    workload::theorems::example_stands();
     bounds::cases_right();
     table::cases_stand();
 }

@@ -1,9 +1,9 @@
 -- The paths from one node, by the nodes to which they step first.
-use Rattle.std.proofs.Common.{◌≡◌, ℕ, zero, suc, ◌+◌, ◌/◌, ◌^◌, ◌<◌, ◌≤◌, ◌⊎◌, List, get_or, Some, None, Option, sym, refl, ap, subst, inl, inr, arith}
+use Rattle.std.proofs.Common.{◌≡◌, ℕ, ◌+◌, ◌/◌, ◌^◌, ◌⊎◌, List, get_or, Some, None, Option, sym, refl, ap, subst, inl, inr, arith}
 use Rattle.std.proofs.lemmas.Bool.{cases_eq}
 use Rattle.table.specs.declared.records.Node.{Node}
 use Rattle.sets.specs.declared.bit_set.BitSet.{BitSet}
-use Rattle.sets.specs.Sets.{Has, Without}
+use Rattle.sets.specs.Sets.{Has, Marks, Without}
 use Rattle.sets.proofs.Bits.{bit, zero_or_one}
 use Rattle.task.specs.Graph.{IsNode}
 use Rattle.paths.specs.Algebra.{LawfulAlgebra}
@@ -16,9 +16,10 @@ abbrev pub Past : BitSet → Path → Type 0
 Past left (end u) = ⊥
 Past left (step u p) = Has left (first p) → ⊥
 
--- of the paths from n that go on, those are sought that do not step first to a number in the set
-pub record Sought {V : Type 0} (choice : V → V → V) (value : Path → V) (Joins : ℕ → ℕ → Type 0) (ns : List Node) (goals : BitSet) (n : ℕ) (left : BitSet) (best : Option V) : Type 0 where
+-- of the paths from n that go on, those are sought that do not step first to a number in the set, which has only found ones
+pub record Sought {V : Type 0} (choice : V → V → V) (value : Path → V) (Joins : ℕ → ℕ → Type 0) (ns : List Node) (goals : BitSet) (n : ℕ) (found left : BitSet) (best : Option V) : Type 0 where
   pub joined : (v : ℕ) → Has left v → Joins n v
+  pub reached : (v : ℕ) → Has left v → Has found v
   pub so_far : BestOver choice value (λ p. Leads Joins ns goals n p × Past left p) best
 
 module _ (Joins : ℕ → ℕ → Type 0) (ns : List Node) (goals : BitSet) (n : ℕ) where
@@ -57,47 +58,53 @@ module _ (Joins : ℕ → ℕ → Type 0) (ns : List Node) (goals : BitSet) (n :
         )
 
 module _ {V : Type 0} {choice extension : V → V → V} (law : LawfulAlgebra V choice extension) (weight : ℕ → Node → V) (Joins : ℕ → ℕ → Type 0) (ns : List Node) (goals : BitSet) (n : ℕ) where
-  -- all the nodes to which n is joined are left
-  pub sought_none : (row : BitSet) → ((v : ℕ) → Has row v → Joins n v) → ((v : ℕ) → Joins n v → Has row v) → Sought choice (path_value extension weight ns) Joins ns goals n row None
-  sought_none row only all = record { joined = only; so_far = none }
-    where
-      none : (p : Path) → Leads Joins ns goals n p × Past row p → ⊥
-      none (end u) (l, b) = b
-      none (step u p) (l, b) = b (all (first p) (subst (λ (x : ℕ). Joins x (first p)) l.begins l.chain.0))
+  module _ (up : Upwards ns Joins) (found : BitSet) (values : List V) (known : Known choice extension weight ns Joins goals (n + 1) found values) where
+    -- all the found nodes in the row of n, to which n is joined, are left
+    pub sought_none : (row both left : BitSet) → ((v : ℕ) → Has row v → Joins n v) → ((v : ℕ) → Joins n v → Has row v) → Marks (λ v. Has row v × Has found v) both → left ≡ both → Sought choice (path_value extension weight ns) Joins ns goals n found left None
+    sought_none row both left only all marks is =
+        record {
+          joined = λ v h. only v (marked v h).0;
+          reached = λ v h. (marked v h).1;
+          so_far = none;
+        }
+      where
+        marked : (v : ℕ) → Has left v → Has row v × Has found v
+        marked v h = marks.only v (subst (λ (s : BitSet). Has s v) is h)
 
-  module _ (up : Upwards ns Joins) (here : IsNode ns n) (found : BitSet) (values : List V) (known : Known choice extension weight ns Joins goals (n + 1) found values) (left less : BitSet) (best : Option V) (v : ℕ) (inside : Has left v) (without : Without left v less) (sought : Sought choice (path_value extension weight ns) Joins ns goals n left best) where
-    pub sought_found : (x y r : V) → Has found v → x ≡ get_or values v x → y ≡ extension (node_weight weight ns n) x → r ≡ elim best [ Some b ↦ choice b y | None ↦ y ] → Sought choice (path_value extension weight ns) Joins ns goals n less (Some r)
-    sought_found x y r has ex ey er =
+        none : (p : Path) → Leads Joins ns goals n p × Past left p → ⊥
+        none (end u) (l, b) = b
+        none (step u p) (l, b) = go (zero_or_one (found.bits / 2 ^ first p))
+          where
+            here : Joins n (first p)
+            here = subst (λ (x : ℕ). Joins x (first p)) l.begins l.chain.0
+
+            on : Leads Joins ns goals (first p) p
+            on = record { from_node = up.between_nodes n (first p) here; begins = refl; chain = l.chain.1; ends = l.ends }
+
+            go : (bit found.bits (first p) ≡ 0) ⊎ (bit found.bits (first p) ≡ 1) → ⊥
+            go (inl e) = known.no_path (first p) (omega (arith, up.forward n (first p) here)) (λ h. omega arith) p on
+            go (inr h) = b (subst (λ (s : BitSet). Has s (first p)) (sym is) (marks.every (first p) (all (first p) here, h)))
+
+  module _ (up : Upwards ns Joins) (here : IsNode ns n) (found : BitSet) (values : List V) (known : Known choice extension weight ns Joins goals (n + 1) found values) (left less : BitSet) (best : Option V) (v : ℕ) (inside : Has left v) (without : Without left v less) (sought : Sought choice (path_value extension weight ns) Joins ns goals n found left best) where
+    pub sought_found : (x y r : V) → x ≡ get_or values v x → y ≡ extension (node_weight weight ns n) x → r ≡ elim best [ Some b ↦ choice b y | None ↦ y ] → Sought choice (path_value extension weight ns) Joins ns goals n found less (Some r)
+    sought_found x y r ex ey er =
         let before : Path → Type 0 = λ p. Leads Joins ns goals n p × Past left p in
         let onto : Path → Type 0 = StepsOnto n (Leads Joins ns goals v) in
         let there : ChoiceOver choice (path_value extension weight ns) (Leads Joins ns goals v) x =
-        chosen_like (Leads Joins ns goals v) (Leads Joins ns goals v) (get_or values v x) x (λ p h. h) (λ p h. h) ex (known.value v has x) in
+        chosen_like (Leads Joins ns goals v) (Leads Joins ns goals v) (get_or values v x) x (λ p h. h) (λ p h. h) ex (known.value v (sought.reached v inside) x) in
         let stepped : ChoiceOver choice (path_value extension weight ns) onto y =
         chosen_like onto onto (extension (node_weight weight ns n) x) y (λ p h. h) (λ p h. h) ey (chosen_step law weight ns (Leads Joins ns goals v) n x there) in
         record {
           joined = λ w h. sought.joined w (without.no_more w h);
+          reached = λ w h. sought.reached w (without.no_more w h);
           so_far =
               chosen_like (λ p. before p ⊎ onto p) (λ p. Leads Joins ns goals n p × Past less p) r r
               (join Joins ns goals n left less v without here (sought.joined v inside)) (split Joins ns goals n left less v without up) refl
               (best_joined law (path_value extension weight ns) before onto best y r sought.so_far stepped er);
         }
 
-    pub sought_skipped : (Has found v → ⊥) → Sought choice (path_value extension weight ns) Joins ns goals n less best
-    sought_skipped lacks =
-        record {
-          joined = λ w h. sought.joined w (without.no_more w h);
-          so_far =
-              best_like choice (path_value extension weight ns) (λ p. Leads Joins ns goals n p × Past left p) (λ p. Leads Joins ns goals n p × Past less p) best
-              (λ p h. (h.0, past_less Joins ns goals n left less v without p h.1))
-              (λ p h. back p (split Joins ns goals n left less v without up p h)) sought.so_far;
-        }
-      where
-        back : (p : Path) → (Leads Joins ns goals n p × Past left p) ⊎ StepsOnto n (Leads Joins ns goals v) p → Leads Joins ns goals n p × Past left p
-        back p (inl h) = h
-        back p (inr (q, e, l)) = absurd (known.no_path v (omega (arith, up.forward n v (sought.joined v inside))) lacks q l)
-
   -- no number is left
-  module _ (left : BitSet) (best : Option V) (none : (v : ℕ) → Has left v → ⊥) (sought : Sought choice (path_value extension weight ns) Joins ns goals n left best) where
+  module _ (found left : BitSet) (best : Option V) (none : (v : ℕ) → Has left v → ⊥) (sought : Sought choice (path_value extension weight ns) Joins ns goals n found left best) where
     -- a path goes on past what is left, or is that of the goal n alone
     goes_on : (p : Path) → Leads Joins ns goals n p → (Leads Joins ns goals n p × Past left p) ⊎ ((p ≡ end n) × Has goals n)
     goes_on (end u) l = inr (ap end l.begins, subst (Has goals) l.begins l.ends)
@@ -126,38 +133,3 @@ module _ {V : Type 0} {choice extension : V → V → V} (law : LawfulAlgebra V 
         go : (p : Path) → (Leads Joins ns goals n p × Past left p) ⊎ ((p ≡ end n) × Has goals n) → Leads Joins ns goals n p × Past left p
         go p (inl h) = h
         go p (inr h) = absurd (no-goal h.1)
-
--- how many of the bits below m are set
-unfoldable pub bits_below : ℕ → ℕ → ℕ
-bits_below zero x = 0
-bits_below (suc m) x = bits_below m x + bit x m
-
-module _ (s r : BitSet) (n : ℕ) (inside : Has s n) (without : Without s n r) where
-  bit_falls : (k : ℕ) → bit r.bits k ≤ bit s.bits k
-  bit_falls k = go (zero_or_one (r.bits / 2 ^ k))
-    where
-      go : (bit r.bits k ≡ 0) ⊎ (bit r.bits k ≡ 1) → bit r.bits k ≤ bit s.bits k
-      go (inl e) = omega arith
-      go (inr e) = omega (arith, without.no_more k e)
-
-  bits_fall : (m : ℕ) → bits_below m r.bits ≤ bits_below m s.bits
-  unfolding bits_below
-  bits_fall zero = omega arith
-  bits_fall (suc m) = omega (arith, bits_fall m, bit_falls m)
-
-  -- a set loses a number
-  pub bits_drop : (m : ℕ) → n < m → bits_below m r.bits < bits_below m s.bits
-  unfolding bits_below
-  bits_drop zero l = absurd (omega arith)
-  bits_drop (suc m) l = go (cases_eq n m) (λ h. bits_drop m h)
-    where
-      go : (n ≡ m) ⊎ (n ≡ m → ⊥) → (n < m → bits_below m r.bits < bits_below m s.bits) → bits_below m r.bits + bit r.bits m < bits_below m s.bits + bit s.bits m
-      go (inl e) later =
-          let set : bit s.bits m ≡ 1 = subst (λ (x : ℕ). bit s.bits x ≡ 1) e inside in
-          let clear : bit r.bits m ≡ 0 = cleared (zero_or_one (r.bits / 2 ^ m)) in
-          omega (arith, bits_fall m)
-        where
-          cleared : (bit r.bits m ≡ 0) ⊎ (bit r.bits m ≡ 1) → bit r.bits m ≡ 0
-          cleared (inl z) = z
-          cleared (inr h) = absurd (without.gone (subst (λ (x : ℕ). Has r x) (sym e) h))
-      go (inr d) later = omega (arith, later (grind arith), bit_falls m)

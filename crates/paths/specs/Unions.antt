@@ -8,7 +8,7 @@ use Rattle.std.proofs.lemmas.Bool.{cases_lt, cond-true, cond-false, lt-ltb, le-l
 use Rattle.table.specs.declared.records.Node.{Node}
 use Rattle.sets.specs.declared.bit_set.BitSet.{BitSet}
 use Rattle.sets.specs.Sets.{Has, With, ◌∪◌}
-use Rattle.sets.proofs.Bits.{bit, zero_or_one, pow_bit}
+use Rattle.sets.proofs.Bits.{bit, zero_or_one, pow_bit, or_bit}
 use Rattle.sets.proofs.Marked.{no_number, none_in_zero, only_pow, pow_only}
 use Rattle.paths.specs.Algebra.{LawfulAlgebra}
 use Rattle.paths.specs.Instances.{node_alone}
@@ -66,9 +66,6 @@ union_lawful =
       extension_left = union_left;
       extension_right = λ a b c. union_comm (a ∪ b) c ∙ union_left c a b ∙ ap₂ ◌∪◌ (union_comm c a) (union_comm c b);
     }
-
-or_bit : (a b n : ℕ) → bit (bit_or a b) n ≡ bit_or (bit a n) (bit b n)
-or_bit a b n = ap (λ (x : ℕ). x % 2) (or_shr a b n) ∙ or_mod (a / 2 ^ n) (b / 2 ^ n) 1
 
 pub in_left : (a b : BitSet) (n : ℕ) → Has a n → Has (a ∪ b) n
 in_left a b n h = or_bit a.bits b.bits n ∙ ap (λ (x : ℕ). bit_or x (bit b.bits n)) h ∙ one (zero_or_one (b.bits / 2 ^ n))

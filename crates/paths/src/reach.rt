@@ -7,7 +7,7 @@ use crate::algebra::PathAlgebra;
 use sets::bit_set::BitSet;
 use table::records::Node;
 
-#[derive(Clone, Copy, Drop)]
+#[derive(Clone, Copy, Debug, PartialEq, Eq, Drop)]
 pub struct Reach;
 
 impl PathAlgebra for Reach {
@@ -29,7 +29,7 @@ impl PathAlgebra for Reach {
         a.union(b)
     }
 
-    fn weigh(&self, number: usize, node: &Node) -> BitSet {
+    fn weigh(&self, number: usize, _node: &Node) -> BitSet {
         if number < 64 {
             BitSet::EMPTY.with(number)
         } else {
@@ -39,8 +39,7 @@ impl PathAlgebra for Reach {
 }
 
 // The choice over the paths from a node to a goal is the set of the nodes through which they pass.
-pub fn reach_is_passed() -> u8
+#[tactic(auto, using(crate::proofs::Passed::passed))]
+pub fn reach_is_passed()
     ensures { ReachIsPassed }
-{
-    0
-}
+{}

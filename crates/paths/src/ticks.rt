@@ -6,7 +6,7 @@ ghost use Rattle.std.proofs.Common.{rules};
 use crate::algebra::PathAlgebra;
 use table::records::Node;
 
-#[derive(Clone, Copy, Drop)]
+#[derive(Clone, Copy, Debug, PartialEq, Eq, Drop)]
 pub struct Ticks;
 
 impl PathAlgebra for Ticks {
@@ -28,21 +28,18 @@ impl PathAlgebra for Ticks {
         a.saturating_add(b)
     }
 
-    fn weigh(&self, number: usize, node: &Node) -> u64 {
-        node.time as u64
+    fn weigh(&self, _number: usize, node: &Node) -> u64 {
+        u64::from(node.time)
     }
 }
 
 // The choice over the paths from a node to a goal is the greatest of their ticks.
-pub fn ticks_are_greatest() -> u8
+pub fn ticks_are_greatest()
     ensures { TicksAreGreatest }
-{
-    0
-}
+{}
 
 // In a task in range the ticks of a path are the sum of its nodes' times.
-pub fn ticks_add_up() -> u8
+#[tactic(auto, using(crate::proofs::Summed::not_capped))]
+pub fn ticks_add_up()
     ensures { TicksAddUp }
-{
-    0
-}
+{}

@@ -17,50 +17,46 @@ fn set_of(nodes: &[Node], arcs: &[Arc]) -> ArcSet
 {
     let mut set = ArcSet::new();
     for arc in arcs {
-        set.insert(arc.from as usize, arc.to as usize);
+        set.insert(usize::from(arc.from), usize::from(arc.to));
     }
     set
 }
 
-// The choice of the best value so far, if any, and one more.
-fn joined<P: PathAlgebra>(algebra: &P, best: Option<P::Value>, next: P::Value) -> P::Value
-    ensures { result ≡ elim best [ Some x ↦ P.PathAlgebra.choice algebra.now x next | None ↦ next ] }
-{
-    match best {
-        Some(x) => algebra.choose(x, next),
-        None => next,
-    }
+// A graph, and the goals to which its paths lead.
+#[derive(Drop)]
+struct PathSearch<'a, P: PathAlgebra> {
+    algebra: &'a P,
+    nodes: &'a [Node],
+    after: &'a ArcSet,
+    goals: BitSet,
+    ghost upwards: { Upwards nodes.now (HasArc after.now) },
 }
 
-// The choice over the paths from n to a goal, where the values of the nodes after n are known.
-fn best_from<P: PathAlgebra>(
-    algebra: &P,
-    nodes: &[Node],
-    after: &ArcSet,
-    goals: BitSet,
-    found: BitSet,
-    values: &[P::Value],
-    n: usize,
-) -> Option<P::Value>
-    requires upwards { Upwards nodes.now (HasArc after.now) }
-    requires node { IsNode nodes.now n }
-    requires room { length nodes.now ≤ length values.now }
-    requires known { Known (P.PathAlgebra.choice algebra.now) (P.PathAlgebra.extension algebra.now) (P.PathAlgebra.weight algebra.now) nodes.now (HasArc after.now) goals (n + 1) found values.now }
-    ensures { BestOver (P.PathAlgebra.choice algebra.now) (path_value (P.PathAlgebra.extension algebra.now) (P.PathAlgebra.weight algebra.now) nodes.now) (Leads (HasArc after.now) nodes.now goals n) result }
-{
-    let weight = algebra.weigh(n, &nodes[n]);
-    let mut best = None;
-    let mut left = after.row(n);
-    while let Some(v) = left.least() {
-        left = left.without(v);
-        if found.has(v) {
-            best = Some(joined(algebra, best, algebra.extend(weight, values[v])));
+impl<'a, P: PathAlgebra> PathSearch<'a, P> {
+    // The choice of the best value so far, if any, and one more.
+    fn joined(&self, best: Option<P::Value>, next: P::Value) -> P::Value
+        ensures { result ≡ elim best [ Some x ↦ P.choice self.now.algebra.now x next | None ↦ next ] }
+    {
+        best.map_or(next, |x| self.algebra.choose(x, next))
+    }
+
+    // The choice over the paths from n to a goal, where the values of the nodes after n are known.
+    fn best_from(&self, n: usize, found: BitSet, values: &[P::Value]) -> Option<P::Value>
+        requires node { IsNode self.now.nodes.now n }
+        requires room { length self.now.nodes.now ≤ length values.now }
+        requires known { Known (P.choice self.now.algebra.now) (P.extension self.now.algebra.now) (P.weight self.now.algebra.now) self.now.nodes.now (HasArc self.now.after.now) self.now.goals (n + 1) found values.now }
+        ensures { BestOver (P.choice self.now.algebra.now) (path_value (P.extension self.now.algebra.now) (P.weight self.now.algebra.now) self.now.nodes.now) (Leads (HasArc self.now.after.now) self.now.nodes.now self.now.goals n) result }
+    {
+        let weight = self.algebra.weigh(n, &self.nodes[n]);
+        let mut best = None;
+        for v in self.after.row(n).common(found) {
+            best = Some(self.joined(best, self.algebra.extend(weight, values[v])));
         }
+        if self.goals.has(n) {
+            best = Some(self.joined(best, weight));
+        }
+        best
     }
-    if goals.has(n) {
-        best = Some(joined(algebra, best, weight));
-    }
-    best
 }
 
 // The nodes that have a path to a goal; the value of each is written to its place.
@@ -73,12 +69,18 @@ pub fn walk<P: PathAlgebra>(
 ) -> BitSet
     requires upwards { Upwards nodes.now (Joined arcs.now) }
     requires room { length nodes.now ≤ length values.old }
-    ensures { Walked (P.PathAlgebra.choice algebra.now) (P.PathAlgebra.extension algebra.now) (P.PathAlgebra.weight algebra.now) nodes.now arcs.now goals values.old values.new result }
+    ensures { Walked (P.choice algebra.now) (P.extension algebra.now) (P.weight algebra.now) nodes.now arcs.now goals values.old values.new result }
 {
     let after = set_of(nodes, arcs);
+    let search = PathSearch {
+        algebra,
+        nodes,
+        after: &after,
+        goals,
+    };
     let mut found = BitSet::EMPTY;
     for n in (0..nodes.len()).rev() {
-        if let Some(value) = best_from(algebra, nodes, &after, goals, found, values, n) {
+        if let Some(value) = search.best_from(n, found, values) {
             values[n] = value;
             found = found.with(n);
         }
@@ -87,8 +89,6 @@ pub fn walk<P: PathAlgebra>(
 }
 
 // Which list of the paths is taken, and in which order, does not change the choice over them.
-pub fn choice_is_one<P: PathAlgebra>(algebra: &P) -> u8
-    ensures { OneChoice (P.PathAlgebra.choice algebra.now) (P.PathAlgebra.extension algebra.now) (P.PathAlgebra.weight algebra.now) }
-{
-    0
-}
+pub fn choice_is_one<P: PathAlgebra>(algebra: &P)
+    ensures { OneChoice (P.choice algebra.now) (P.extension algebra.now) (P.weight algebra.now) }
+{}

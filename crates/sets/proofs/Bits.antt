@@ -21,7 +21,7 @@ zero_or_one x = go (cases_eq (x % 2) 0)
     go (inl e) = inl e
     go (inr h) = inr (odd (x % 2) (mod_below x 2 (omega arith)) h)
 
-or_bit : (a b n : ℕ) → bit (bit_or a b) n ≡ bit_or (bit a n) (bit b n)
+pub or_bit : (a b n : ℕ) → bit (bit_or a b) n ≡ bit_or (bit a n) (bit b n)
 or_bit a b n = ap (λ (x : ℕ). x % 2) (or_shr a b n) ∙ or_mod (a / 2 ^ n) (b / 2 ^ n) 1
 
 pub pow_bit : (k : ℕ) → bit (2 ^ k) k ≡ 1

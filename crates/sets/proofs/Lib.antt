@@ -4,3 +4,4 @@ pub mod Selected
 pub mod Found
 pub mod Marked
 pub mod Unions
+pub mod Counted

@@ -3,3 +3,4 @@
 
 pub mod arc_set;
 pub mod bit_set;
+pub mod members;

@@ -1,3 +1,4 @@
+pub mod Ahead
 pub mod Bound
 pub mod Greatest
 pub mod Inside

@@ -1,5 +1,5 @@
 -- The weights and the picks after the nodes from i on.
-use Rattle.std.proofs.Common.{◌≡◌, ℕ, suc, ◌+◌, ◌-◌, ◌^◌, ◌<◌, ◌≤◌, ◌≢◌, ◌⊎◌, List, [], length, get_or, set, replicate, sym, refl, ap, ◌∙◌, subst, inl, inr, arith, length-set, get_or-set_other, get_or-set_same}
+use Rattle.std.proofs.Common.{◌≡◌, ℕ, suc, ◌+◌, ◌^◌, ◌<◌, ◌≤◌, ◌≢◌, ◌⊎◌, List, [], length, get_or, set, replicate, sym, refl, ap, ◌∙◌, subst, inl, inr, arith, length-set, get_or-set_other, get_or-set_same}
 use lib.ListN.{length-replicate, get_or-replicate}
 use Rattle.std.proofs.lemmas.List.{get_or_past}
 use Rattle.std.proofs.lemmas.Bool.{cases_eq, cases_lt}
@@ -50,13 +50,6 @@ pub record Turn (ns : List Node) (i : ℕ) (rows : List (List ℕ)) (picks : Lis
   pub is_node : IsNode ns i
   pub stage : Stage ns (suc i) rows picks
   pub heavy : Heaviest (get_or rows i []) p
-
--- the turn of the node before j
-pub turn_before : (ns : List Node) → Nested ns → (j : ℕ) (rows : List (List ℕ)) (picks : List ℕ) (p : ℕ) → 0 < j → j ≤ length ns → Stage ns j rows picks
-    → Heaviest (get_or rows (j - 1) []) p → Turn ns (j - 1) rows picks p
-turn_before ns nested j rows picks p l m stage heavy =
-    let same : j ≡ suc (j - 1) = omega arith in
-    record { nested = nested; is_node = omega arith; stage = subst (λ (k : ℕ). Stage ns k rows picks) same stage; heavy = heavy }
 
 module _ (ns : List Node) (i : ℕ) (rows : List (List ℕ)) (picks : List ℕ) (p : ℕ) (turn : Turn ns i rows picks p) where
   abbrev nested : Nested ns

@@ -9,16 +9,10 @@ use sets::bit_set::BitSet;
 use table::records::{Arc, Node};
 
 // The greatest of the values, and 0 of none.
-fn greatest(values: &[u64]) -> u64
+pub(crate) fn greatest(values: &[u64]) -> u64
     ensures { GreatestOf values.now result }
 {
-    let mut most = 0;
-    for value in values {
-        if *value > most {
-            most = *value;
-        }
-    }
-    most
+    values.iter().copied().max().unwrap_or(0)
 }
 
 // The greatest length of a path from each node on.

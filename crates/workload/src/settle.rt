@@ -3,7 +3,7 @@ ghost use Rattle.workload.specs.Nested.{Nested};
 ghost use Rattle.workload.specs.Worst.{WorstPicks};
 
 use crate::settlement::Picks;
-use crate::weights::{Weights, add, heaviest};
+use crate::weights::Weights;
 use table::records::Node;
 
 // From the last node to the first, picks the heaviest branch of each opening: a node adds its time and the weight of that
@@ -12,13 +12,13 @@ pub(crate) fn settle(nodes: &[Node]) -> Picks
     requires { Nested nodes.now }
     ensures { WorstPicks nodes.now result }
 {
-    let mut weights: Weights = [[0; 8]; 64];
+    let mut weights = Weights::new();
     let mut picks: Picks = [0; 64];
-    for v in (0..nodes.len()).rev() {
-        let pick = heaviest(&weights[v]);
+    for (v, node) in nodes.iter().enumerate().rev() {
+        let (pick, weight) = weights.heaviest(v);
         picks[v] = pick as u8;
-        let gain = nodes[v].time as u64 + weights[v][pick];
-        add(&mut weights, nodes[v].region, gain);
+        let gain = u64::from(node.time) + weight;
+        weights.add(node.region, gain);
     }
     picks
 }

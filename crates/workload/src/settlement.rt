@@ -4,7 +4,7 @@
 pub type Picks = [u8; 64];
 
 // A settling, and the times of the nodes that it takes in all.
-#[derive(Clone, Copy, Drop)]
+#[derive(Clone, Copy, Debug, PartialEq, Eq, Drop)]
 pub struct Settlement {
     pub picks: Picks,
     pub total: u64,

@@ -18,8 +18,8 @@ fn leads_into(region: Region, picks: &Picks, taken: BitSet) -> bool
 {
     match region {
         Region::Top => true,
-        Region::Branch { home, branch } => taken.has(home as usize)
-            && picks[home as usize] == branch,
+        Region::Branch { home, branch } => taken.has(usize::from(home))
+            && picks[usize::from(home)] == branch,
     }
 }
 
@@ -29,8 +29,8 @@ pub(crate) fn taken(nodes: &[Node], picks: &Picks) -> BitSet
     ensures { Marks (TakenNode nodes.now (pick_of picks.now)) result }
 {
     let mut taken = BitSet::EMPTY;
-    for v in 0..nodes.len() {
-        if leads_into(nodes[v].region, picks, taken) {
+    for (v, node) in nodes.iter().enumerate() {
+        if leads_into(node.region, picks, taken) {
             taken = taken.with(v);
         }
     }
@@ -43,12 +43,10 @@ pub(crate) fn total_of(nodes: &[Node], taken: BitSet) -> u64
     ensures { (pick : ℕ → ℕ) → Marks (TakenNode nodes.now pick) taken → result ≡ total_time nodes.now pick }
 {
     let mut total = 0;
-    let mut number = 0;
-    for node in nodes {
+    for (number, node) in nodes.iter().enumerate() {
         if taken.has(number) {
-            total += node.time as u64;
+            total += u64::from(node.time);
         }
-        number += 1;
     }
     total
 }

@@ -3,36 +3,30 @@ ghost use Rattle.workload.specs.Example.{ExampleStands};
 ghost use Rattle.workload.specs.Statements.{PathsSettle, LongestPathIsLength, OneGreatest, TasksNest};
 
 // Every path of arcs is taken whole by some settling.
-pub fn paths_settle() -> u8
+#[tactic(auto, using(crate::proofs::Paths::paths_settle_lem))]
+pub fn paths_settle()
     ensures { PathsSettle }
-{
-    0
-}
+{}
 
 // So the greatest length is that of the longest path.
-pub fn longest_path_is_length() -> u8
+pub fn longest_path_is_length()
     ensures { LongestPathIsLength }
-{
-    0
-}
+{}
 
 // No two values are both the greatest.
-pub fn one_greatest() -> u8
+#[tactic(auto, using(crate::proofs::Paths::one_greatest_lem))]
+pub fn one_greatest()
     ensures { OneGreatest }
-{
-    0
-}
+{}
 
 // The nodes of every task are nested, as the functions of this crate require.
-pub fn tasks_nest() -> u8
+#[tactic(auto, using(crate::proofs::Nesting::tasks_nest_lem))]
+pub fn tasks_nest()
     ensures { TasksNest }
-{
-    0
-}
+{}
 
 // A worked example: a task of greatest length 12 and greatest total 22.
-pub fn example_stands() -> u8
+#[tactic(auto, using(crate::proofs::Worked::example_stands_lem))]
+pub fn example_stands()
     ensures { ExampleStands }
-{
-    0
-}
+{}

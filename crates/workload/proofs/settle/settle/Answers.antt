@@ -1,27 +1,27 @@
-use Rattle.std.proofs.Common.{◌≡◌, ℕ, ◌-◌, subst, arith}
-use Rattle.workload.proofs.Stages.{Stage, Turn, stage_start, turn_before, stage_step, stage_end, gain_fits, room}
+use Rattle.std.proofs.Common.{arith}
+use Rattle.workload.proofs.Ahead.{all_ahead, none_ahead, gain_fits_ahead, room_ahead, less_ahead}
 use Rattle.workload.proofs.settle.settle.Goals as goal
-use Rattle.workload.proofs.settle.settle.Goals.{After-heaviest-pick}
-
-turn : (c : After-heaviest-pick) → Turn c.args.nodes.now (c.loop-v.v - 1) c.loop-v.weights c.loop-v.picks c.heaviest-pick.result
-turn c = turn_before c.args.nodes.now c.requires c.loop-v.v c.loop-v.weights c.loop-v.picks c.heaviest-pick.result c.loop-v-test.true (omega arith) c.loop-v.invariant c.heaviest-pick.ensures
 
 pub loop-v-init : goal.loop-v-init
-loop-v-init c = stage_start c.args.nodes.now
+loop-v-init c = all_ahead _ _ _ _ (cc) (cc) c.new-weights.ensures
 
 pub overflow_add-gain : goal.overflow_add-gain
 overflow_add-gain c =
-    let fits = gain_fits _ _ _ _ _ (turn (goal.at.overflow_add-gain c).After-heaviest-pick) in
-    omega arith
+    let step = c.in-Some.ensures.steps.1 in
+    let fits = gain_fits_ahead _ c.requires _ _ _ _ _ _ _ _ c.loop-v.invariant step.0 step.1 c.heaviest-pick.ensures.first in
+    omega (arith, c.from.ensures, c.heaviest-pick.ensures.weight)
 
 pub add-requires : goal.add-requires
-add-requires c = room _ _ _ _ _ (turn (goal.at.add-requires c).After-heaviest-pick)
+add-requires c =
+    let step = c.in-Some.ensures.steps.1 in
+    rw (c.from.ensures, c.heaviest-pick.ensures.weight)
+    (room_ahead _ c.requires _ _ _ _ _ _ _ _ c.loop-v.invariant step.0 step.1 c.heaviest-pick.ensures.first)
 
 pub loop-v-preserved : goal.loop-v-preserved
-loop-v-preserved c = stage_step _ _ _ _ _ (turn (goal.at.loop-v-preserved c).After-heaviest-pick) c.add.new.weights c.add.ensures
+loop-v-preserved c =
+    let step = c.in-Some.ensures.steps.1 in
+    less_ahead _ c.requires _ _ _ _ _ _ _ _ c.loop-v.invariant step.0 step.1 c.heaviest-pick.ensures.first
+    _ _ c.in-Some.ensures.steps.0 (rw (c.from.ensures, c.heaviest-pick.ensures.weight) at c.add.ensures)
 
 pub returns : goal.returns
-returns c =
-    let end : c.loop-v.v ≡ 0 = omega arith in
-    stage_end c.args.nodes.now c.requires c.loop-v.weights c.loop-v.picks
-    (subst (λ (k : ℕ). Stage c.args.nodes.now k c.loop-v.weights c.loop-v.picks) end c.loop-v.invariant)
+returns c = none_ahead _ c.requires _ _ _ _ c.loop-v.invariant c.in-None.ensures.steps.1.0

@@ -4,7 +4,7 @@ use Rattle.workload.specs.Measures.{sum_below, taken_time}
 use Rattle.workload.specs.Worst.{TakenNode}
 use Rattle.workload.proofs.taken.total_of.Given as goal
 
-abbrev pub invariant-loop-node : goal.invariant-loop-node
-invariant-loop-node l =
-    (l.number ≡ l.node-index) × (l.total ≤ 4294967295 * l.node-index)
-    × ((pick : ℕ → ℕ) → Marks (TakenNode l.nodes pick) l.taken → l.total ≡ sum_below l.node-index (taken_time l.nodes pick))
+abbrev pub invariant-loop-number : goal.invariant-loop-number
+invariant-loop-number l =
+    (l.total ≤ 4294967295 * l.number)
+    × ((pick : ℕ → ℕ) → Marks (TakenNode l.nodes pick) l.taken → l.total ≡ sum_below l.number (taken_time l.nodes pick))

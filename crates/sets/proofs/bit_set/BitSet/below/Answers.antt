@@ -1,4 +1,4 @@
-use Rattle.std.proofs.Common.{rules, refl}
+use Rattle.std.proofs.Common.{rules}
 use Rattle.sets.proofs.Selected.{selected}
 use Rattle.sets.proofs.bit_set.BitSet.below.Goals as goal
 
