@@ -1,9 +1,9 @@
 // The rules of a task's shape, and what a task breaks that lacks it.
-ghost use Rattle.std.specs.Prelude.{◌≡◌};
+ghost use Rattle.std.specs.Prelude.{◌≡◌, Some, None, Ok, Err};
 ghost use Rattle.task.specs.Rules.{rule_number};
 
 // The rules, in the sequence in which they are tried.
-#[derive(Clone, Copy, Drop)]
+#[derive(Clone, Copy, Debug, PartialEq, Eq, Drop)]
 pub enum Rule {
     // each node's home is an opening
     HomesAreOpenings,
@@ -33,10 +33,20 @@ impl Rule {
             Rule::BlocksAreWired => 6,
         }
     }
+
+    // Whether the rule is kept, by the first place at which it is broken.
+    pub(crate) fn kept(self, first_broken: Option<usize>) -> Result<(), Broken>
+        ensures { elim result [ Ok _ ↦ first_broken ≡ None | Err broken ↦ (first_broken ≡ Some broken.at) × (broken.rule ≡ self) ] }
+    {
+        match first_broken {
+            Some(at) => Err(Broken { rule: self, at }),
+            None => Ok(()),
+        }
+    }
 }
 
 // The first rule that a task breaks, and the first node at which it does. For the rule of arcs, the place of the arc.
-#[derive(Clone, Copy, Drop)]
+#[derive(Clone, Copy, Debug, PartialEq, Eq, Drop)]
 pub struct Broken {
     pub rule: Rule,
     pub at: usize,
