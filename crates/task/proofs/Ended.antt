@@ -12,7 +12,7 @@ use Rattle.task.specs.Graph.{IsNode, InRegion, First, Last}
 use Rattle.sets.specs.Sets.{JustOne, Marks}
 use Rattle.task.specs.Shape.{HasEnds}
 
-just_one_like : (P Q : ℕ → Type 0) → ((v : ℕ) → P v → Q v) → ((v : ℕ) → Q v → P v) → JustOne P → JustOne Q
+pub just_one_like : (P Q : ℕ → Type 0) → ((v : ℕ) → P v → Q v) → ((v : ℕ) → Q v → P v) → JustOne P → JustOne Q
 just_one_like P Q f g j = record { the_one = j.the_one; has_it = f j.the_one j.has_it; no_other = λ w q. j.no_other w (g w q) }
 
 module _ (ns : List Node) (arcs : List Arc) where

@@ -6,32 +6,25 @@ ghost use Rattle.task.specs.Rules.{rule_number};
 #[derive(Clone, Copy, Debug, PartialEq, Eq, Drop)]
 pub enum Rule {
     // each node's home is an opening
-    HomesAreOpenings,
+    HomesAreOpenings = 1,
     // each closing's mate is an opening, and each opening has just one closing, in its own region
-    MatesPairUp,
+    MatesPairUp = 2,
     // each opening has a node in branch 0, and no branch number is skipped
-    BranchesCountUp,
+    BranchesCountUp = 3,
     // each arc is inner, entry or exit, and none is given twice
-    ArcsAreLawful,
+    ArcsAreLawful = 4,
     // in each region just one unit has no inner arc into it, and just one has none out of it
-    OneFirstOneLast,
+    OneFirstOneLast = 5,
     // each opening has an entry arc to the first unit of each of its branches and no other, each closing an exit arc from
     // the last unit of each and no other
-    BlocksAreWired,
+    BlocksAreWired = 6,
 }
 
 impl Rule {
     pub fn number(&self) -> u8
         ensures { result ≡ rule_number self.now }
     {
-        match *self {
-            Rule::HomesAreOpenings => 1,
-            Rule::MatesPairUp => 2,
-            Rule::BranchesCountUp => 3,
-            Rule::ArcsAreLawful => 4,
-            Rule::OneFirstOneLast => 5,
-            Rule::BlocksAreWired => 6,
-        }
+        *self as u8
     }
 
     // Whether the rule is kept, by the first place at which it is broken.
