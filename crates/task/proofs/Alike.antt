@@ -1,12 +1,12 @@
 -- The shape of a task does not depend on its times.
 use Rattle.std.proofs.Common.{◌≡◌, ℕ, suc, List, length, sym, ◌∙◌, subst, inl, inr, arith}
-use Rattle.sets.specs.Sets.{JustOne}
 use Rattle.table.specs.declared.records.Arc.{Arc}
 use Rattle.table.specs.declared.records.Node.{Node}
 use Rattle.table.specs.declared.records.Region.{Region}
 use Rattle.table.specs.declared.records.Region.TheVariants.{Branch}
 use Rattle.task.specs.Graph.{role, region, IsNode, HomeOf, InRegion, HasBranch, ClosingOf, BeginsUnit, EndsUnit, Inner, Entry, Exit, OfAKind, First, Last}
 use Rattle.task.specs.Graph.{from, to}
+use Rattle.task.proofs.Ended.{just_one_like}
 use Rattle.task.specs.Shape.{HomeOpens, ClosedOnce, PairsUp, CountsUp, LawfulArc, HasEnds, HasEndsAt, Wired, Shaped}
 
 -- as many nodes, of the same roles in the same regions
@@ -64,9 +64,6 @@ module _ (ns ms : List Node) (a : Alike ns ms) (arcs : List Arc) where
   last_unit : (v : ℕ) → Last ns arcs v → Last ms arcs v
   last_unit v l = record { ends = ends ns ms a v l.ends; none_after = λ w j k. l.none_after w j (inner ms ns b v w k) }
 
-like_just_one : (P Q : ℕ → Type 0) → ((v : ℕ) → P v → Q v) → ((v : ℕ) → Q v → P v) → JustOne P → JustOne Q
-like_just_one P Q f g j = record { the_one = j.the_one; has_it = f j.the_one j.has_it; no_other = λ w q. j.no_other w (g w q) }
-
 module _ (ns ms : List Node) (a : Alike ns ms) (arcs : List Arc) where
   c : Alike ms ns
   c = turned ns ms a
@@ -76,7 +73,7 @@ module _ (ns ms : List Node) (a : Alike ns ms) (arcs : List Arc) where
 
   closed_once : (o : ℕ) → ClosedOnce ns o → ClosedOnce ms o
   closed_once o k = record {
-    one_closing = like_just_one (ClosingOf ns o) (ClosingOf ms o) (closing_of ns ms a o) (closing_of ms ns c o) k.one_closing;
+    one_closing = just_one_like (ClosingOf ns o) (ClosingOf ms o) (closing_of ns ms a o) (closing_of ms ns c o) k.one_closing;
     beside = λ x l. sym (a.regions x) ∙ k.beside x (closing_of ms ns c o x l) ∙ a.regions o;
   }
 
@@ -99,10 +96,10 @@ module _ (ns ms : List Node) (a : Alike ns ms) (arcs : List Arc) where
 
   has_ends : (r : Region) → HasEnds ns arcs r → HasEnds ms arcs r
   has_ends r h = record {
-    one_first = like_just_one (λ u. InRegion ns r u × First ns arcs u) (λ u. InRegion ms r u × First ms arcs u)
+    one_first = just_one_like (λ u. InRegion ns r u × First ns arcs u) (λ u. InRegion ms r u × First ms arcs u)
         (λ u p. (in_region ns ms a r u p.0, first_unit ns ms a arcs u p.1))
         (λ u p. (in_region ms ns c r u p.0, first_unit ms ns c arcs u p.1)) h.one_first;
-    one_last = like_just_one (λ u. InRegion ns r u × Last ns arcs u) (λ u. InRegion ms r u × Last ms arcs u)
+    one_last = just_one_like (λ u. InRegion ns r u × Last ns arcs u) (λ u. InRegion ms r u × Last ms arcs u)
         (λ u p. (in_region ns ms a r u p.0, last_unit ns ms a arcs u p.1))
         (λ u p. (in_region ms ns c r u p.0, last_unit ms ns c arcs u p.1)) h.one_last;
   }

@@ -1,23 +1,16 @@
 -- Openings and their branches.
-use Rattle.std.proofs.Common.{◌≡◌, ℕ, List, length, arith}
+use Rattle.std.proofs.Common.{◌≡◌, ℕ, List}
 use Rattle.table.specs.declared.records.Node.{Node}
 use Rattle.table.specs.declared.records.Region.TheVariants.{Branch}
 use Rattle.sets.specs.declared.bit_set.BitSet.{BitSet}
 use Rattle.task.specs.Graph.{region, HasBranch}
 use Rattle.sets.specs.Sets.{Marks, RunsFromZero}
 use Rattle.task.specs.Shape.{BranchesRun}
-use Rattle.sets.proofs.Marked.{SomeBelow, marks_like}
 
 module _ (ns : List Node) (o : ℕ) where
   -- the node k lies in branch b of o
   abbrev pub LiesInBranch : ℕ → ℕ → Type 0
   LiesInBranch k b = region ns k ≡ Branch o b
-
-  pub branches_marked : (m : ℕ) (s : BitSet) → m ≡ length ns → Marks (SomeBelow LiesInBranch m) s → Marks (HasBranch ns o) s
-  branches_marked m s e w = marks_like w there (λ b i. (i.0, (let n = i.1.is_node in omega arith), i.1.lies))
-    where
-      there : (b : ℕ) → SomeBelow LiesInBranch m b → HasBranch ns o b
-      there b (k, l, q) = (k, record { is_node = omega arith; lies = q })
 
   pub run_marked : (s : BitSet) → Marks (HasBranch ns o) s → RunsFromZero s → BranchesRun ns o
   run_marked s m r =

@@ -14,4 +14,5 @@ pub mod Regions
 pub mod Retiming
 pub mod Sequence
 pub mod Stable
+pub mod Tested
 pub mod Wires

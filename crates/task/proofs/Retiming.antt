@@ -1,6 +1,7 @@
 -- A lawful task stays lawful when the time of a node is set to one in range.
-use Rattle.std.proofs.Common.{◌≡◌, ℕ, zero, suc, ◌<◌, ◌⊎◌, List, [], ◌∷◌, length, get_or, take, set, sym, refl, ap, ◌∙◌, subst, inl, inr, arith}
+use Rattle.std.proofs.Common.{◌≡◌, ℕ, suc, ◌<◌, ◌⊎◌, List, length, get_or, take, set, sym, refl, ap, ◌∙◌, subst, inl, inr, arith}
 use Rattle.std.proofs.lemmas.List.{length-set, length-take, get_or-set_same, get_or-set_other, get_or-take}
+use Rattle.std.proofs.Math.Seq.{take-set-lt}
 use Rattle.std.proofs.lemmas.Bool.{cases_eq}
 use Rattle.table.specs.declared.records.Arc.{Arc}
 use Rattle.table.specs.declared.records.Node.{Node}
@@ -14,12 +15,6 @@ use Rattle.task.specs.Shape.{Shaped}
 use Rattle.task.specs.Retimed.{with_time, retimed, CanRetime}
 use Rattle.task.proofs.Alike.{Alike, alike_shaped}
 
-take_set_within : {A : Type 0} (n : ℕ) (xs : List A) (v : ℕ) (y : A) → take n (set xs v y) ≡ set (take n xs) v y
-take_set_within zero xs v y = refl
-take_set_within (suc n) [] v y = refl
-take_set_within (suc n) (x ∷ xs) zero y = refl
-take_set_within {A} (suc n) (x ∷ xs) (suc v) y = ap (λ (l : List A). x ∷ l) (take_set_within n xs v y)
-
 -- the nodes of the retimed table are the old ones, but for the time of v
 pub retimed_nodes : (table : Table) (v t : ℕ) → IsNode (nodes_of table) v
     → nodes_of (retimed table v t) ≡ set (nodes_of table) v (with_time t (get_or (nodes_of table) v no_node))
@@ -27,7 +22,7 @@ retimed_nodes table v t i =
     let len = table.nodes.len in
     let items = table.nodes.items in
     let within : v < len = omega (arith, length-take len items) in
-    take_set_within len items v (with_time t (get_or items v no_node))
+    take-set-lt len items v (with_time t (get_or items v no_node)) within
     ∙ ap (λ (n : Node). set (take len items) v (with_time t n)) (sym (get_or-take len items v no_node within))
 
 module _ (ns : List Node) (v t : ℕ) (i : IsNode ns v) where

@@ -1,11 +1,13 @@
 -- The rules one after the other.
-use Rattle.std.proofs.Common.{◌≡◌, ℕ, zero, suc, ◌<◌, ◌⊎◌, List, sym, refl, ap, ◌∙◌, subst, inl, inr, arith}
+use Rattle.std.proofs.Common.{◌≡◌, ℕ, zero, suc, ◌<◌, ◌⊎◌, List, Option, Some, None, sym, refl, ap, ◌∙◌, subst, inl, inr, arith}
 use Rattle.std.proofs.lemmas.Bool.{cases_eq}
 use Rattle.table.specs.declared.records.Arc.{Arc}
 use Rattle.table.specs.declared.records.Node.{Node}
+use Rattle.sets.specs.Tests.{Tried}
+use Rattle.task.specs.declared.rules.Broken.{Broken}
 use Rattle.task.specs.declared.rules.Rule.{Rule}
 use Rattle.task.specs.declared.rules.Rule.TheVariants.{HomesAreOpenings, MatesPairUp, BranchesCountUp, ArcsAreLawful, OneFirstOneLast, BlocksAreWired}
-use Rattle.task.specs.Rules.{rule_number, Holds}
+use Rattle.task.specs.Rules.{rule_number, BrokenAt, Holds, HoldsAt, places}
 use Rattle.task.specs.Shape.{AllHomesAreOpenings, AllMatesPairUp, AllBranchesCountUp, AllArcsAreLawful, AllHaveOneFirstOneLast}
 
 abbrev numbered : ℕ → Rule
@@ -50,6 +52,16 @@ module _ (ns : List Node) (arcs : List Arc) where
       go : (rule_number r ≡ rule_number rule) ⊎ (rule_number r ≡ rule_number rule → ⊥) → Holds ns arcs r
       go (inl e) = subst (λ (x : Rule). Holds ns arcs x) (same_rule rule r (sym e)) here
       go (inr d) = before r (grind arith)
+
+  -- how a rule is kept, or broken first, by the first place at which it is broken
+  pub kept : (rule : Rule) (first : Option ℕ) → Tried (HoldsAt ns arcs rule) (places ns arcs rule) first → first ≡ None → Holds ns arcs rule
+  kept rule first tried e = subst (Tried (HoldsAt ns arcs rule) (places ns arcs rule)) e tried
+
+  pub broken_first : (rule : Rule) (first : Option ℕ) (b : Broken) → Tried (HoldsAt ns arcs rule) (places ns arcs rule) first
+      → (first ≡ Some b.at) × (b.rule ≡ rule) → HoldBelow (rule_number rule) → BrokenAt ns arcs b.rule b.at
+  broken_first rule first b tried (e, same) before =
+      subst (λ (r : Rule). BrokenAt ns arcs r b.at) (sym same)
+      (record { earlier = before; here = subst (Tried (HoldsAt ns arcs rule) (places ns arcs rule)) e tried })
 
   module _ (homes : AllHomesAreOpenings ns) where
     pub after_homes : HoldBelow 2

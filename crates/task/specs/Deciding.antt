@@ -6,6 +6,8 @@ use Rattle.table.specs.declared.records.Region.{Region}
 use Rattle.sets.specs.declared.bit_set.BitSet.{BitSet}
 use Rattle.task.specs.declared.kinds.ArcKind.{ArcKind}
 use Rattle.task.specs.declared.kinds.ArcKind.TheVariants.{Inner as inner, Entry as entry, Exit as exit}
+use Rattle.task.specs.declared.reach.ArcEnd.{ArcEnd}
+use Rattle.task.specs.declared.reach.ArcEnd.TheVariants.{Start as start, Stop as stop}
 use Rattle.task.specs.Graph.{IsNode, InRegion, BeginsUnit, EndsUnit, Inner, Entry, Exit, Joined, First, Last}
 use Rattle.sets.specs.Sets.{JustOne, Has}
 
@@ -23,6 +25,16 @@ ReachedBy ns arcs kind v = (u : ℕ) × Joined arcs u v × OfKind ns kind u v
 abbrev pub LeftBy : List Node → List Arc → ArcKind → ℕ → Type 0
 LeftBy ns arcs kind u = (v : ℕ) × Joined arcs u v × OfKind ns kind u v
 
+-- the node at this end of an arc
+abbrev pub node_at : Arc → ArcEnd → ℕ
+node_at arc start = arc.from
+node_at arc stop = arc.to
+
+-- an arc of the kind has this end at v
+abbrev pub MetBy : List Node → List Arc → ArcKind → ArcEnd → ℕ → Type 0
+MetBy ns arcs kind start v = LeftBy ns arcs kind v
+MetBy ns arcs kind stop v = ReachedBy ns arcs kind v
+
 -- the node v is first in its region
 pub record FirstNode (ns : List Node) (arcs : List Arc) (v : ℕ) : Type 0 where
   pub is_node : IsNode ns v
@@ -33,6 +45,16 @@ pub record LastNode (ns : List Node) (arcs : List Arc) (v : ℕ) : Type 0 where
   pub is_node : IsNode ns v
   pub last : Last ns arcs v
 
+-- the node v is first in its region, where arcs stop, or last, where they start
+abbrev pub Outermost : List Node → List Arc → ArcEnd → ℕ → Type 0
+Outermost ns arcs start v = LastNode ns arcs v
+Outermost ns arcs stop v = FirstNode ns arcs v
+
+-- arcs between units stop where a unit begins, and start where one ends
+abbrev pub MayMeet : List Node → ArcEnd → ℕ → Type 0
+MayMeet ns start v = EndsUnit ns v
+MayMeet ns stop v = BeginsUnit ns v
+
 -- v begins a unit, and is not in the set
 pub record BeginsOutside (ns : List Node) (s : BitSet) (v : ℕ) : Type 0 where
   pub begins : BeginsUnit ns v
@@ -42,6 +64,11 @@ pub record BeginsOutside (ns : List Node) (s : BitSet) (v : ℕ) : Type 0 where
 pub record EndsOutside (ns : List Node) (s : BitSet) (v : ℕ) : Type 0 where
   pub ends : EndsUnit ns v
   pub outside : Has s v → ⊥
+
+-- arcs between units may have this end at v, and v is not in the set
+abbrev pub MeetsOutside : List Node → ArcEnd → BitSet → ℕ → Type 0
+MeetsOutside ns start s v = EndsOutside ns s v
+MeetsOutside ns stop s v = BeginsOutside ns s v
 
 -- v is a node of the region, and in the set
 pub record Within (ns : List Node) (r : Region) (s : BitSet) (v : ℕ) : Type 0 where

@@ -5,9 +5,9 @@ ghost use Rattle.sets.specs.Sets.{Marks, RunsFromZero};
 ghost use Rattle.task.specs.Shape.{CountsUp};
 ghost use Rattle.sets.specs.Tests.{Says, Tried};
 
-use crate::views::{branch_under, is_opening};
+use crate::graph::Graph;
 use sets::bit_set::BitSet;
-use table::records::Node;
+use table::records::{Node, Region};
 
 // The branches of an opening in which there are nodes.
 pub fn branches_of(nodes: &[Node], opening: usize) -> BitSet
@@ -15,9 +15,12 @@ pub fn branches_of(nodes: &[Node], opening: usize) -> BitSet
     ensures { Marks (HasBranch nodes.now opening) result }
 {
     let mut branches = BitSet::EMPTY;
-    for v in 0..nodes.len() {
-        if let Some(branch) = branch_under(nodes, v, opening) {
-            branches = branches.with(branch);
+    for node in nodes {
+        match node.region {
+            Region::Branch { home, branch } if home as usize == opening => {
+                branches = branches.with(branch as usize);
+            },
+            _ => {},
         }
     }
     branches
@@ -27,35 +30,21 @@ pub fn branches_of(nodes: &[Node], opening: usize) -> BitSet
 fn runs_from_zero(set: BitSet) -> bool
     ensures { Says result (RunsFromZero set) }
 {
-    for n in 0..63 {
-        if set.has(n + 1) && !set.has(n) {
-            return false;
-        }
-    }
-    set.has(0)
+    set.has(0) && (0..63).all(|n| set.has(n) || !set.has(n + 1))
 }
 
-// Whether the branches of an opening are numbered from 0 and none is skipped.
-fn counts_up(nodes: &[Node], v: usize) -> bool
-    requires { BranchesFew nodes.now }
-    ensures { Says result (CountsUp nodes.now v) }
-{
-    if is_opening(nodes, v) {
-        runs_from_zero(branches_of(nodes, v))
-    } else {
-        true
+impl Graph<'_> {
+    // Whether the branches of an opening are numbered from 0 and none is skipped.
+    fn counts_up(&self, v: usize) -> bool
+        ensures { Says result (CountsUp self.now.nodes.now v) }
+    {
+        !self.is_opening(v) || runs_from_zero(branches_of(self.nodes, v))
     }
-}
 
-// The first opening without a branch 0, or that skips a branch.
-pub(crate) fn branches_count_up(nodes: &[Node]) -> Option<usize>
-    requires { BranchesFew nodes.now }
-    ensures { Tried (CountsUp nodes.now) (length nodes.now) result }
-{
-    for v in 0..nodes.len() {
-        if !counts_up(nodes, v) {
-            return Some(v);
-        }
+    // The first opening without a branch 0, or that skips a branch.
+    pub(crate) fn branches_count_up(&self) -> Option<usize>
+        ensures { Tried (CountsUp self.now.nodes.now) (length self.now.nodes.now) result }
+    {
+        (0..self.nodes.len()).find(|&v| !self.counts_up(v))
     }
-    None
 }

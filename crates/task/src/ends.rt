@@ -1,113 +1,78 @@
 // One first and one last: the ends of regions.
-ghost use Rattle.std.specs.Prelude.{◌≤◌, length};
-ghost use Rattle.task.specs.Deciding.{BeginsOutside, EndsOutside, FirstNode, LastNode, Within, OneOfEach};
-ghost use Rattle.task.specs.Graph.{Ranged, IsNode, region as region_at};
+ghost use Rattle.std.specs.Prelude.{length};
+ghost use Rattle.task.specs.Deciding.{MayMeet, MeetsOutside, Outermost, Within, OneOfEach};
+ghost use Rattle.task.specs.Graph.{IsNode, region as region_at};
 ghost use Rattle.sets.specs.Sets.{JustOne, Marks};
 ghost use Rattle.task.specs.Shape.{HasEndsAt};
 ghost use Rattle.sets.specs.Tests.{Says, Tried};
 
+use crate::graph::Graph;
 use crate::kinds::ArcKind;
-use crate::reach::{left_by, reached_by};
-use crate::views::{begins_unit, ends_unit, region_of, same_region};
+use crate::reach::ArcEnd;
 use sets::bit_set::BitSet;
-use table::records::{Arc, Node, Region};
+use table::records::Region;
 
-// Whether a node begins a unit and is not in the set.
-fn begins_outside(nodes: &[Node], set: BitSet, v: usize) -> bool
-    ensures { Says result (BeginsOutside nodes.now set v) }
-{
-    begins_unit(nodes, v) && !set.has(v)
-}
-
-// The nodes that begin the first units of their regions.
-pub(crate) fn first_nodes(nodes: &[Node], arcs: &[Arc]) -> BitSet
-    requires { Ranged nodes.now arcs.now }
-    ensures { Marks (FirstNode nodes.now arcs.now) result }
-{
-    let reached = reached_by(nodes, arcs, ArcKind::Inner);
-    let mut firsts = BitSet::EMPTY;
-    for v in 0..nodes.len() {
-        if begins_outside(nodes, reached, v) {
-            firsts = firsts.with(v);
+impl Graph<'_> {
+    // Whether arcs between units may have this end at a node: a unit is left where it ends, and met where it begins.
+    fn may_meet(&self, end: ArcEnd, v: usize) -> bool
+        ensures { Says result (MayMeet self.now.nodes.now end v) }
+    {
+        match end {
+            ArcEnd::Start => self.ends_unit(v),
+            ArcEnd::Stop => self.begins_unit(v),
         }
     }
-    firsts
-}
 
-// Whether a node ends a unit and is not in the set.
-fn ends_outside(nodes: &[Node], set: BitSet, v: usize) -> bool
-    ensures { Says result (EndsOutside nodes.now set v) }
-{
-    ends_unit(nodes, v) && !set.has(v)
-}
-
-// The nodes that end the last units of their regions.
-pub(crate) fn last_nodes(nodes: &[Node], arcs: &[Arc]) -> BitSet
-    requires { Ranged nodes.now arcs.now }
-    ensures { Marks (LastNode nodes.now arcs.now) result }
-{
-    let left = left_by(nodes, arcs, ArcKind::Inner);
-    let mut lasts = BitSet::EMPTY;
-    for v in 0..nodes.len() {
-        if ends_outside(nodes, left, v) {
-            lasts = lasts.with(v);
-        }
+    // Whether arcs between units may have this end at a node, and it is not in the set.
+    fn meets_outside(&self, end: ArcEnd, set: BitSet, v: usize) -> bool
+        ensures { Says result (MeetsOutside self.now.nodes.now end set v) }
+    {
+        self.may_meet(end, v) && !set.has(v)
     }
-    lasts
-}
 
-// Whether a node is in the set and lies in the region.
-fn is_within(nodes: &[Node], region: Region, set: BitSet, v: usize) -> bool
-    requires { IsNode nodes.now v }
-    ensures { Says result (Within nodes.now region set v) }
-{
-    set.has(v) && same_region(region_of(nodes, v), region)
-}
-
-// The nodes of a set that lie in the region.
-fn within(nodes: &[Node], region: Region, set: BitSet) -> BitSet
-    requires { length nodes.now ≤ 64 }
-    ensures { Marks (Within nodes.now region set) result }
-{
-    let mut found = BitSet::EMPTY;
-    for v in 0..nodes.len() {
-        if is_within(nodes, region, set, v) {
-            found = found.with(v);
-        }
+    // The nodes that begin the first units of their regions, where arcs stop; those that end the last, where arcs start.
+    pub(crate) fn outermost(&self, end: ArcEnd) -> BitSet
+        ensures { Marks (Outermost self.now.nodes.now self.now.arcs.now end) result }
+    {
+        let met = self.met_by(ArcKind::Inner, end);
+        BitSet::select(self.nodes.len(), |v| self.meets_outside(end, met, v))
     }
-    found
-}
 
-// Whether just one node of a set lies in the region.
-fn has_one(nodes: &[Node], region: Region, set: BitSet) -> bool
-    requires { length nodes.now ≤ 64 }
-    ensures { Says result (JustOne (Within nodes.now region set)) }
-{
-    match within(nodes, region, set).only() {
-        Some(_) => true,
-        None => false,
+    // Whether a node is in the set and lies in the region.
+    fn is_within(&self, region: Region, set: BitSet, v: usize) -> bool
+        requires { IsNode self.now.nodes.now v }
+        ensures { Says result (Within self.now.nodes.now region set v) }
+    {
+        set.has(v) && self.region(v) == region
     }
-}
 
-// Whether just one node of either set lies in the region of v.
-fn has_one_of_each(nodes: &[Node], firsts: BitSet, lasts: BitSet, v: usize) -> bool
-    requires { length nodes.now ≤ 64 }
-    ensures { Says result (OneOfEach nodes.now firsts lasts (region_at nodes.now v)) }
-{
-    has_one(nodes, region_of(nodes, v), firsts) && has_one(nodes, region_of(nodes, v), lasts)
-}
-
-// The first node in whose region there is not just one first unit and just one last.
-pub(crate) fn one_first_one_last(nodes: &[Node], arcs: &[Arc]) -> Option<usize>
-    requires { Ranged nodes.now arcs.now }
-    ensures { Tried (HasEndsAt nodes.now arcs.now) (length nodes.now) result }
-{
-    let firsts = first_nodes(nodes, arcs);
-    let lasts = last_nodes(nodes, arcs);
-    for v in 0..nodes.len() {
-        if !has_one_of_each(nodes, firsts, lasts, v) {
-            return Some(v);
-        }
+    // The nodes of a set that lie in the region.
+    fn within(&self, region: Region, set: BitSet) -> BitSet
+        ensures { Marks (Within self.now.nodes.now region set) result }
+    {
+        BitSet::select(self.nodes.len(), |v| self.is_within(region, set, v))
     }
-    None
+
+    // Whether just one node of a set lies in the region.
+    fn has_one(&self, region: Region, set: BitSet) -> bool
+        ensures { Says result (JustOne (Within self.now.nodes.now region set)) }
+    {
+        self.within(region, set).only().is_some()
+    }
+
+    // Whether just one node of either set lies in the region of v.
+    fn has_one_of_each(&self, firsts: BitSet, lasts: BitSet, v: usize) -> bool
+        ensures { Says result (OneOfEach self.now.nodes.now firsts lasts (region_at self.now.nodes.now v)) }
+    {
+        self.has_one(self.region(v), firsts) && self.has_one(self.region(v), lasts)
+    }
+
+    // The first node in whose region there is not just one first unit and just one last.
+    pub(crate) fn one_first_one_last(&self) -> Option<usize>
+        ensures { Tried (HasEndsAt self.now.nodes.now self.now.arcs.now) (length self.now.nodes.now) result }
+    {
+        let firsts = self.outermost(ArcEnd::Stop);
+        let lasts = self.outermost(ArcEnd::Start);
+        (0..self.nodes.len()).find(|&v| !self.has_one_of_each(firsts, lasts, v))
+    }
 }

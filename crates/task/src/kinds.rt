@@ -3,10 +3,9 @@ ghost use Rattle.task.specs.Deciding.{OfKind};
 ghost use Rattle.task.specs.Graph.{Inner as InnerArc, Entry as EntryArc, Exit as ExitArc, OfAKind};
 ghost use Rattle.sets.specs.Tests.{Says};
 
-use crate::views::{begins_unit, closes, ends_unit, home_of, is_opening, region_of, same_region};
-use table::records::Node;
+use crate::graph::Graph;
 
-#[derive(Clone, Copy, Drop)]
+#[derive(Clone, Copy, Debug, PartialEq, Eq, Drop)]
 pub(crate) enum ArcKind {
     // from unit to unit inside one region
     Inner,
@@ -16,46 +15,43 @@ pub(crate) enum ArcKind {
     Exit,
 }
 
-fn is_inner(nodes: &[Node], u: usize, v: usize) -> bool
-    ensures { Says result (InnerArc nodes.now u v) }
-{
-    same_region(region_of(nodes, u), region_of(nodes, v))
-        && ends_unit(nodes, u)
-        && begins_unit(nodes, v)
-}
-
-fn is_entry(nodes: &[Node], u: usize, v: usize) -> bool
-    ensures { Says result (EntryArc nodes.now u v) }
-{
-    match home_of(nodes, v) {
-        Some(home) => home == u && is_opening(nodes, u) && begins_unit(nodes, v),
-        None => false,
+impl Graph<'_> {
+    fn is_inner(&self, u: usize, v: usize) -> bool
+        ensures { Says result (InnerArc self.now.nodes.now u v) }
+    {
+        self.side_by_side(u, v) && self.ends_unit(u) && self.begins_unit(v)
     }
-}
 
-fn is_exit(nodes: &[Node], u: usize, v: usize) -> bool
-    ensures { Says result (ExitArc nodes.now u v) }
-{
-    match home_of(nodes, u) {
-        Some(home) => ends_unit(nodes, u) && closes(nodes, v, home),
-        None => false,
+    fn is_entry(&self, u: usize, v: usize) -> bool
+        ensures { Says result (EntryArc self.now.nodes.now u v) }
+    {
+        self.is_opening(u) && self.begins_unit(v) && self.lies_under(v, u)
     }
-}
 
-// Whether an arc from u to v is of the kind.
-pub(crate) fn is_of_kind(nodes: &[Node], kind: ArcKind, u: usize, v: usize) -> bool
-    ensures { Says result (OfKind nodes.now kind u v) }
-{
-    match kind {
-        ArcKind::Inner => is_inner(nodes, u, v),
-        ArcKind::Entry => is_entry(nodes, u, v),
-        ArcKind::Exit => is_exit(nodes, u, v),
+    fn is_exit(&self, u: usize, v: usize) -> bool
+        ensures { Says result (ExitArc self.now.nodes.now u v) }
+    {
+        match self.home(u) {
+            Some(home) => self.ends_unit(u) && self.closes(v, home),
+            None => false,
+        }
     }
-}
 
-// Whether an arc from u to v is of any kind.
-pub(crate) fn is_of_a_kind(nodes: &[Node], u: usize, v: usize) -> bool
-    ensures { Says result (OfAKind nodes.now u v) }
-{
-    is_inner(nodes, u, v) || is_entry(nodes, u, v) || is_exit(nodes, u, v)
+    // Whether an arc from u to v is of the kind.
+    pub(crate) fn is_of_kind(&self, kind: ArcKind, u: usize, v: usize) -> bool
+        ensures { Says result (OfKind self.now.nodes.now kind u v) }
+    {
+        match kind {
+            ArcKind::Inner => self.is_inner(u, v),
+            ArcKind::Entry => self.is_entry(u, v),
+            ArcKind::Exit => self.is_exit(u, v),
+        }
+    }
+
+    // Whether an arc from u to v is of any kind.
+    pub(crate) fn is_of_a_kind(&self, u: usize, v: usize) -> bool
+        ensures { Says result (OfAKind self.now.nodes.now u v) }
+    {
+        self.is_inner(u, v) || self.is_entry(u, v) || self.is_exit(u, v)
+    }
 }

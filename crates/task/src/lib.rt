@@ -4,6 +4,7 @@
 mod arcs;
 mod branches;
 mod ends;
+mod graph;
 mod held;
 mod homes;
 mod kinds;
@@ -15,8 +16,8 @@ pub mod rules;
 mod shape;
 #[cfg(test)]
 mod tests;
-mod views;
 mod wiring;
 
 pub use branches::branches_of;
+pub use graph::Graph;
 pub use held::{Refusal, Task};

@@ -1,60 +1,47 @@
 // Mates pair up.
-ghost use Rattle.std.specs.Prelude.{◌≤◌, length};
+ghost use Rattle.std.specs.Prelude.{length};
 ghost use Rattle.task.specs.Graph.{ClosingOf};
 ghost use Rattle.sets.specs.Sets.{Marks};
 ghost use Rattle.task.specs.Shape.{ClosedOnce, PairsUp};
 ghost use Rattle.sets.specs.Tests.{Says, Tried};
 
-use crate::views::{closes, is_opening, region_of, role_of, same_region};
+use crate::graph::Graph;
 use sets::bit_set::BitSet;
-use table::records::{Node, Role};
+use table::records::Role;
 
-// The closings of an opening.
-fn closings_of(nodes: &[Node], opening: usize) -> BitSet
-    requires { length nodes.now ≤ 64 }
-    ensures { Marks (ClosingOf nodes.now opening) result }
-{
-    let mut closings = BitSet::EMPTY;
-    for v in 0..nodes.len() {
-        if closes(nodes, v, opening) {
-            closings = closings.with(v);
+impl Graph<'_> {
+    // The closings of an opening.
+    fn closings_of(&self, opening: usize) -> BitSet
+        ensures { Marks (ClosingOf self.now.nodes.now opening) result }
+    {
+        BitSet::select(self.nodes.len(), |v| self.closes(v, opening))
+    }
+
+    // Whether an opening has just one closing, in its own region.
+    fn closed_once(&self, opening: usize) -> bool
+        ensures { Says result (ClosedOnce self.now.nodes.now opening) }
+    {
+        match self.closings_of(opening).only() {
+            Some(closing) => self.side_by_side(closing, opening),
+            None => false,
         }
     }
-    closings
-}
 
-// Whether an opening has just one closing, in its own region.
-fn closed_once(nodes: &[Node], opening: usize) -> bool
-    requires { length nodes.now ≤ 64 }
-    ensures { Says result (ClosedOnce nodes.now opening) }
-{
-    match closings_of(nodes, opening).only() {
-        Some(closing) => same_region(region_of(nodes, closing), region_of(nodes, opening)),
-        None => false,
-    }
-}
-
-// Whether a closing's mate is an opening, and an opening is closed once.
-fn pairs_up(nodes: &[Node], v: usize) -> bool
-    requires { length nodes.now ≤ 64 }
-    ensures { Says result (PairsUp nodes.now v) }
-{
-    match role_of(nodes, v) {
-        Role::Plain => true,
-        Role::Opening => closed_once(nodes, v),
-        Role::Closing { mate } => is_opening(nodes, mate as usize),
-    }
-}
-
-// The first closing whose mate is no opening, or opening that is not closed once.
-pub(crate) fn mates_pair_up(nodes: &[Node]) -> Option<usize>
-    requires { length nodes.now ≤ 64 }
-    ensures { Tried (PairsUp nodes.now) (length nodes.now) result }
-{
-    for v in 0..nodes.len() {
-        if !pairs_up(nodes, v) {
-            return Some(v);
+    // Whether a closing's mate is an opening, and an opening is closed once.
+    fn pairs_up(&self, v: usize) -> bool
+        ensures { Says result (PairsUp self.now.nodes.now v) }
+    {
+        match self.role(v) {
+            Role::Plain => true,
+            Role::Opening => self.closed_once(v),
+            Role::Closing { mate } => self.is_opening(mate as usize),
         }
     }
-    None
+
+    // The first closing whose mate is no opening, or opening that is not closed once.
+    pub(crate) fn mates_pair_up(&self) -> Option<usize>
+        ensures { Tried (PairsUp self.now.nodes.now) (length self.now.nodes.now) result }
+    {
+        (0..self.nodes.len()).find(|&v| !self.pairs_up(v))
+    }
 }

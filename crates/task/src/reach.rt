@@ -1,38 +1,44 @@
-// Where arcs of a kind run.
-ghost use Rattle.task.specs.Deciding.{ReachedBy, LeftBy};
-ghost use Rattle.task.specs.Graph.{Ranged};
+// The ends of arcs, and the nodes at which arcs of a kind have them.
+ghost use Rattle.std.specs.Prelude.{◌≡◌};
+ghost use Rattle.task.specs.Deciding.{MetBy, node_at};
 ghost use Rattle.sets.specs.Sets.{Marks};
 
-use crate::kinds::{ArcKind, is_of_kind};
+use crate::graph::Graph;
+use crate::kinds::ArcKind;
 use sets::bit_set::BitSet;
-use table::records::{Arc, Node};
+use table::records::Arc;
 
-// The nodes that an arc of the kind runs into.
-pub(crate) fn reached_by(nodes: &[Node], arcs: &[Arc], kind: ArcKind) -> BitSet
-    requires { Ranged nodes.now arcs.now }
-    ensures { Marks (ReachedBy nodes.now arcs.now kind) result }
-{
-    let mut reached = BitSet::EMPTY;
-    for arc in arcs {
-        let (u, v) = (arc.from as usize, arc.to as usize);
-        if is_of_kind(nodes, kind, u, v) {
-            reached = reached.with(v);
-        }
-    }
-    reached
+#[derive(Clone, Copy, Debug, PartialEq, Eq, Drop)]
+pub(crate) enum ArcEnd {
+    // where it runs out of a node
+    Start,
+    // where it runs into a node
+    Stop,
 }
 
-// The nodes that an arc of the kind runs out of.
-pub(crate) fn left_by(nodes: &[Node], arcs: &[Arc], kind: ArcKind) -> BitSet
-    requires { Ranged nodes.now arcs.now }
-    ensures { Marks (LeftBy nodes.now arcs.now kind) result }
-{
-    let mut left = BitSet::EMPTY;
-    for arc in arcs {
-        let (u, v) = (arc.from as usize, arc.to as usize);
-        if is_of_kind(nodes, kind, u, v) {
-            left = left.with(u);
+impl ArcEnd {
+    // The node at this end of an arc.
+    fn of(self, arc: Arc) -> usize
+        ensures { result ≡ node_at arc self }
+    {
+        match self {
+            ArcEnd::Start => arc.from as usize,
+            ArcEnd::Stop => arc.to as usize,
         }
     }
-    left
+}
+
+impl Graph<'_> {
+    // The nodes at which an arc of the kind has this end.
+    pub(crate) fn met_by(&self, kind: ArcKind, end: ArcEnd) -> BitSet
+        ensures { Marks (MetBy self.now.nodes.now self.now.arcs.now kind end) result }
+    {
+        let mut met = BitSet::EMPTY;
+        for arc in self.arcs {
+            if self.is_of_kind(kind, arc.from as usize, arc.to as usize) {
+                met = met.with(end.of(*arc));
+            }
+        }
+        met
+    }
 }

@@ -1,25 +1,36 @@
 // Tasks from tables, and what they hold.
 ghost use Rattle.std.specs.Prelude.{◌≡◌};
+ghost use Rattle.table.specs.Whole.{Lawful};
+ghost use Rattle.task.specs.declared.held.Refusal.TheVariants.{Unsound, Misshapen};
 ghost use Rattle.task.specs.Described.{Told, records, refusal_number, refusal_added};
 ghost use Rattle.task.specs.Held.{nodes_of, arcs_of, LawfulTask};
 
+use crate::graph::Graph;
 use crate::held::{Refusal, Task};
-use crate::shape::check_shape;
-use table::records::{Arc, Node, Timing};
+use crate::rules::Broken;
+use table::fault::Fault;
+use table::records::{Arc, Node, Table, Timing};
+
+// The graph of a table in range.
+fn graph_of(table: &Table) -> Graph<'_>
+    requires { Lawful table.now.timing (nodes_of table.now) (arcs_of table.now) }
+    ensures nodes { result.nodes.now ≡ nodes_of table.now }
+    ensures arcs { result.arcs.now ≡ arcs_of table.now }
+{
+    Graph {
+        nodes: table.nodes.as_slice(),
+        arcs: table.arcs.as_slice(),
+    }
+}
 
 impl Task {
     // The task that a table describes, or the first cause for which it describes none.
     pub fn read(bytes: &[u8]) -> Result<Task, Refusal>
         ensures { Told bytes.now (records result) }
     {
-        let table = match table::read(bytes) {
-            Ok(table) => table,
-            Err(fault) => return Err(Refusal::Unsound(fault)),
-        };
-        match check_shape(table.nodes.as_slice(), table.arcs.as_slice()) {
-            Ok(()) => Ok(Task { table }),
-            Err(broken) => Err(Refusal::Misshapen(broken)),
-        }
+        let table = table::read(bytes)?;
+        graph_of(&table).check_shape()?;
+        Ok(Task { table })
     }
 
     pub fn timing(&self) -> Timing
@@ -41,6 +52,31 @@ impl Task {
     {
         self.table.arcs.as_slice()
     }
+
+    // The nodes with the arcs between them.
+    pub fn graph(&self) -> Graph<'_>
+        ensures nodes { result.nodes.now ≡ nodes_of self.now.table }
+        ensures arcs { result.arcs.now ≡ arcs_of self.now.table }
+        ensures lawful { LawfulTask self.now.table }
+    {
+        graph_of(&self.table)
+    }
+}
+
+impl From<Fault> for Refusal {
+    ghost from_gives = { λ fault refusal. refusal ≡ Unsound fault };
+
+    fn from(fault: Fault) -> Refusal {
+        Self::Unsound(fault)
+    }
+}
+
+impl From<Broken> for Refusal {
+    ghost from_gives = { λ broken refusal. refusal ≡ Misshapen broken };
+
+    fn from(broken: Broken) -> Refusal {
+        Self::Misshapen(broken)
+    }
 }
 
 impl Refusal {
@@ -48,7 +84,7 @@ impl Refusal {
     pub fn number(&self) -> u8
         ensures { result ≡ refusal_number self.now }
     {
-        match *self {
+        match self {
             Refusal::Unsound(fault) => fault.number(),
             Refusal::Misshapen(_) => 7,
         }
@@ -58,7 +94,7 @@ impl Refusal {
     pub fn added(&self) -> usize
         ensures { result ≡ refusal_added self.now }
     {
-        match *self {
+        match self {
             Refusal::Unsound(fault) => fault.added(),
             Refusal::Misshapen(broken) => broken.rule.number() as usize,
         }

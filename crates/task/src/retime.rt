@@ -9,7 +9,7 @@ impl Task {
         ensures { Retimes self.table node time result }
     {
         let mut table = self.table;
-        if node >= table.nodes.as_slice().len() || time < 1 || time > 65535 {
+        if node >= table.nodes.as_slice().len() || !(1..=65_535).contains(&time) {
             return None;
         }
         table.nodes.items[node].time = time;

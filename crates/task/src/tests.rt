@@ -44,6 +44,14 @@ impl Draft {
             Err(refusal) => (refusal.number(), refusal.added()),
         }
     }
+
+    // How many nodes and arcs the graph has of a task that is taken; 0 and 0 for one that is refused.
+    fn size(&self) -> (usize, usize) {
+        match Task::read(self.bytes.as_slice()) {
+            Ok(task) => (task.graph().nodes.len(), task.graph().arcs.len()),
+            Err(_) => (0, 0),
+        }
+    }
 }
 
 // Node 0 opens a branch of one node and a branch with three nodes side by side, and node 7 closes them.
@@ -76,6 +84,7 @@ fn conditional(heap: Global) -> Result<Draft, AllocError> {
 fn lawful_tasks_are_taken(rt: HostRuntime) -> Result<(), Fail> {
     let heap = rt.alloc();
     assert_eq!(rt; conditional(heap)?.verdict(), (0, 0));
+    assert_eq!(rt; conditional(heap)?.size(), (8, 10));
     let mut nested = Draft::new(heap)?;
     nested.node(OPENING, NONE, 0, NONE)?;
     nested.node(OPENING, 0, 0, NONE)?;

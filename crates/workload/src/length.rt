@@ -1,12 +1,11 @@
 // The length of a longest path.
-ghost use Rattle.task.specs.Graph.{Ranged};
 ghost use Rattle.workload.specs.Greatest.{GreatestOf};
 ghost use Rattle.workload.specs.Measures.{IsLongestPath, Lengths};
 
 use paths::ticks::Ticks;
 use paths::walk::walk;
 use sets::bit_set::BitSet;
-use table::records::{Arc, Node};
+use task::Graph;
 
 // The greatest of the values, and 0 of none.
 pub(crate) fn greatest(values: &[u64]) -> u64
@@ -16,25 +15,23 @@ pub(crate) fn greatest(values: &[u64]) -> u64
 }
 
 // The greatest length of a path from each node on.
-pub(crate) fn lengths(nodes: &[Node], arcs: &[Arc]) -> [u64; 64]
-    requires { Ranged nodes.now arcs.now }
-    ensures { Lengths nodes.now arcs.now result }
+pub(crate) fn lengths(graph: &Graph<'_>) -> [u64; 64]
+    ensures { Lengths graph.now.nodes.now graph.now.arcs.now result }
 {
     let mut lengths = [0u64; 64];
     walk(
         &Ticks,
-        nodes,
-        arcs,
-        BitSet::below(nodes.len()),
+        graph.nodes,
+        graph.arcs,
+        BitSet::below(graph.nodes.len()),
         &mut lengths,
     );
     lengths
 }
 
 // Every path begins at some node.
-pub(crate) fn longest(nodes: &[Node], arcs: &[Arc]) -> u64
-    requires { Ranged nodes.now arcs.now }
-    ensures { IsLongestPath nodes.now arcs.now result }
+pub(crate) fn longest(graph: &Graph<'_>) -> u64
+    ensures { IsLongestPath graph.now.nodes.now graph.now.arcs.now result }
 {
-    greatest(&lengths(nodes, arcs))
+    greatest(&lengths(graph))
 }

@@ -16,15 +16,15 @@ pub fn length_and_total(task: &Task) -> (u64, u64)
     ensures length { IsGreatestLength (nodes_of task.now.table) (arcs_of task.now.table) result.0 }
     ensures total { IsGreatestTotal (nodes_of task.now.table) result.1 }
 {
-    let nodes = task.nodes();
-    (longest(nodes, task.arcs()), worst_of(nodes).total)
+    let graph = task.graph();
+    (longest(&graph), worst_of(graph.nodes).total)
 }
 
 // By the node's number, the greatest length of a path from each node on.
 pub fn lengths_from(task: &Task) -> [u64; 64]
     ensures { Lengths (nodes_of task.now.table) (arcs_of task.now.table) result }
 {
-    lengths(task.nodes(), task.arcs())
+    lengths(&task.graph())
 }
 
 // A settling with the greatest total, the first branch of the heaviest at each opening.

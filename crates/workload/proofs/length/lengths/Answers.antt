@@ -4,5 +4,5 @@ use Rattle.workload.proofs.length.lengths.Goals as goal
 
 pub returns : goal.returns
 returns c =
-    walked_lengths c.args.nodes.now c.args.arcs.now c.requires c.below.result c.walk.result _ c.walk.new.values c.below.ensures
+    walked_lengths c.args.graph.now.nodes.now c.args.graph.now.arcs.now c.args.graph.now.ranged c.below.result c.walk.result _ c.walk.new.values c.below.ensures
     c.walk.ensures refl (omega (arith, c.walk.ensures.same_length))

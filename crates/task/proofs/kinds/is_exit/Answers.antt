@@ -1,4 +1,0 @@
-use Rattle.task.proofs.kinds.is_exit.Goals as goal
-
-pub returns-in-None : goal.returns-in-None
-returns-in-None c = λ e. c.in-None.ensures e.home e.inside
