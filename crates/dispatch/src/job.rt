@@ -7,7 +7,7 @@ use sets::bit_set::BitSet;
 
 // How far it is with each node, where the places past the task's nodes stay untouched; the nodes that it had on a core
 // in the tick closed last; and the ticks closed since its release, as many as the number holds.
-#[derive(Clone, Copy, Drop)]
+#[derive(Clone, Copy, Debug, PartialEq, Eq, Drop)]
 pub struct Job {
     pub states: [NodeState; 64],
     pub placed: BitSet,
