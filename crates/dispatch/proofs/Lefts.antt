@@ -5,20 +5,17 @@ use lib.Pow.{pow-lt}
 use Rattle.std.proofs.lemmas.List.{ext_get_or, length-set, get_or-set_same, get_or-set_other}
 use Rattle.std.proofs.lemmas.Bool.{cases_eq}
 use Rattle.jobs.specs.declared.node_state.NodeState.{NodeState}
-use Rattle.jobs.specs.Job.{JobEnded}
 use Rattle.sets.specs.declared.bit_set.BitSet.{BitSet}
 use Rattle.sets.specs.Sets.{Marks}
 use Rattle.sets.proofs.Bits.{bit, zero_or_one, or_pow_same, or_pow_other, bit_below, same_bits}
 use Rattle.task.specs.declared.held.Task.{Task}
-use Rattle.dispatch.specs.declared.closing.Fate.{Fate}
-use Rattle.dispatch.specs.declared.closing.Fate.TheVariants.{Unmoved as keeps_still, Ends as ends_now, Stays as stays_with}
 use Rattle.dispatch.specs.declared.job.Job.{Job}
 use Rattle.dispatch.specs.declared.spot.Spot.{Spot}
-use Rattle.dispatch.specs.Closing.{Bit, Moved, ClosedSlot, Closed}
-use Rattle.dispatch.specs.Moves.{Fated}
+use Rattle.dispatch.specs.Closing.{Bit, ClosedSlot, Closed}
+use Rattle.dispatch.specs.Moves.{Leaves}
 use Rattle.dispatch.specs.Spots.{HasCore}
 use Rattle.dispatch.specs.Statements.{OneClosing}
-use Rattle.dispatch.specs.Tables.{task_at, job_at, task_nodes, task_arcs}
+use Rattle.dispatch.specs.Tables.{task_at, job_at, Holds}
 use Rattle.dispatch.proofs.Rows.{below_last}
 
 -- the slots below m are closed, and the others are as they were
@@ -39,55 +36,32 @@ module _ (spots : List (Option Spot)) (outcomes : List ℕ) (s : ℕ) where
   slot_bit (Some t) None mask other left to from e = record { same = e.same; not_told = λ b. e.not_told (from b) }
   slot_bit None j mask other left to from e = record { same = e.same; not_told = λ b. e.not_told (from b) }
 
-  -- each fate closes the slot
-  slot_unmoved : (t : Option Task) (j : Option Job) (mask : ℕ) (left : Option Job) → Fated t j spots outcomes s keeps_still → left ≡ j → (Bit mask s → ⊥)
-      → ClosedSlot t j spots outcomes s mask left
-  slot_unmoved (Some t) (Some j) mask left f e n = absurd f
-  slot_unmoved (Some t) None mask left f e n = record { same = e; not_told = n }
-  slot_unmoved None j mask left f e n = record { same = e; not_told = n }
-
-  ends_not_still : ends_now ≡ keeps_still → ⊥
-  ends_not_still e = let z : ◌≡◌ {A = ℕ} 0 1 = cc in omega arith
-
-  stays_not_still : (j : Job) → stays_with j ≡ keeps_still → ⊥
-  stays_not_still j e = let z : ◌≡◌ {A = ℕ} 0 1 = cc in omega arith
-
-  slot_ends : (t : Option Task) (j : Option Job) (mask : ℕ) (left : Option Job) → Fated t j spots outcomes s ends_now → left ≡ None → Bit mask s
-      → ClosedSlot t j spots outcomes s mask left
-  slot_ends (Some t) (Some j) mask left f e b = inl (record { ended = f; gone = e; told = b })
-  slot_ends (Some t) None mask left f e b = absurd (ends_not_still f)
-  slot_ends None j mask left f e b = absurd (ends_not_still f)
-
-  slot_stays : (t : Option Task) (j : Option Job) (mask : ℕ) (left : Option Job) (later : Job) → Fated t j spots outcomes s (stays_with later) → left ≡ Some later
+  -- a slot with no open job of a task is closed as it is
+  slot_unmoved : (t : Option Task) (j : Option Job) (mask : ℕ) (left : Option Job) → ((task : Task) (job : Job) → t ≡ Some task → j ≡ Some job → ⊥) → left ≡ j
       → (Bit mask s → ⊥) → ClosedSlot t j spots outcomes s mask left
-  slot_stays (Some t) (Some j) mask left later f e n = inr (record { not_ended = f.0; later = later; still = e; moved = f.1; not_told = n })
-  slot_stays (Some t) None mask left later f e n = absurd (stays_not_still later f)
-  slot_stays None j mask left later f e n = absurd (stays_not_still later f)
+  slot_unmoved (Some t) (Some j) mask left none e n = absurd (none t j refl refl)
+  slot_unmoved (Some t) None mask left none e n = record { same = e; not_told = n }
+  slot_unmoved None j mask left none e n = record { same = e; not_told = n }
 
--- a job that has not ended stays
-pub stays_fated : (spots : List (Option Spot)) (outcomes : List ℕ) (s : ℕ) (t : Option Task) (j : Option Job) (task : Task) (job later : Job) → t ≡ Some task → j ≡ Some job
-    → (JobEnded (task_nodes task) (task_arcs task) later.states → ⊥) → Moved spots outcomes s job later → Fated t j spots outcomes s (stays_with later)
-stays_fated spots outcomes s t j task job later et ej n m =
-    let here : Fated (Some task) (Some job) spots outcomes s (stays_with later) =
-    (λ e. n (subst (λ (x : List NodeState). JobEnded (task_nodes task) (task_arcs task) x) (sym m.states) e), m) in
-    subst (λ (x : Option Task). Fated x j spots outcomes s (stays_with later)) (sym et)
-    (subst (λ (x : Option Job). Fated (Some task) x spots outcomes s (stays_with later)) (sym ej) here)
+  slot_moved : (t : Option Task) (j : Option Job) (task : Task) (job : Job) (mask : ℕ) (left : Option Job) → t ≡ Some task → j ≡ Some job
+      → ClosedSlot (Some task) (Some job) spots outcomes s mask left → ClosedSlot t j spots outcomes s mask left
+  slot_moved t j task job mask left et ej closed =
+      subst (λ (x : Option Task). ClosedSlot x j spots outcomes s mask left) (sym et)
+      (subst (λ (x : Option Job). ClosedSlot (Some task) x spots outcomes s mask left) (sym ej) closed)
 
 module _ (tasks : List (Option Task)) (jobs : List (Option Job)) (spots : List (Option Spot)) (outcomes : List ℕ) where
   pub closing_none : length jobs ≡ 16 → ClosingBelow tasks jobs spots outcomes 0 0 jobs
   closing_none e = record { sixteen = e; small = omega arith; done = λ s l. absurd (omega arith); rest = λ s l. refl }
 
-  module _ (m mask : ℕ) (left : List (Option Job)) (b : ClosingBelow tasks jobs spots outcomes m mask left) (lm : m < 16) (t : Option Task) (et : task_at tasks m ≡ t) where
+  module _ (m mask : ℕ) (left : List (Option Job)) (b : ClosingBelow tasks jobs spots outcomes m mask left) (lm : m < 16) where
     more : mask < 2 ^ (m + 1)
     more = let p : 2 ^ m < 2 ^ (m + 1) = pow-lt (omega arith) in omega (arith, b.small)
 
     clear : Bit mask m → ⊥
     clear h = omega (arith, bit_below m mask m b.small h)
 
-    fated : (fate : Fate) → Fated t (job_at left m) spots outcomes m fate → Fated (task_at tasks m) (job_at jobs m) spots outcomes m fate
-    fated fate f =
-        subst (λ (x : Option Task). Fated x (job_at jobs m) spots outcomes m fate) (sym et)
-        (subst (λ (x : Option Job). Fated t x spots outcomes m fate) (b.rest m (omega arith)) f)
+    before : job_at left m ≡ job_at jobs m
+    before = b.rest m (omega arith)
 
     -- the slots before are closed still, under a mask with the same bits there and a list with the same jobs
     one_more : (mask' : ℕ) (left' : List (Option Job)) → length left' ≡ 16 → mask' < 2 ^ (m + 1) → ((s : ℕ) → (s ≡ m → ⊥) → bit mask' s ≡ bit mask s)
@@ -108,25 +82,32 @@ module _ (tasks : List (Option Task)) (jobs : List (Option Job)) (spots : List (
             (slot_bit spots outcomes s (task_at tasks s) (job_at jobs s) mask mask' (job_at left s) (λ h. bits s d ∙ h) (λ h. sym (bits s d) ∙ h)
             (b.done s (below_last s m l d)))
 
-    pub closing_still : Fated t (job_at left m) spots outcomes m keeps_still → ClosingBelow tasks jobs spots outcomes (m + 1) mask left
-    closing_still f =
+    pub closing_still : ((task : Task) (job : Job) → Holds tasks left m task job → ⊥) → ClosingBelow tasks jobs spots outcomes (m + 1) mask left
+    closing_still none =
         one_more mask left b.sixteen more (λ s d. refl) (λ s d. refl)
-        (slot_unmoved spots outcomes m (task_at tasks m) (job_at jobs m) mask (job_at left m) (fated keeps_still f) (b.rest m (omega arith)) clear)
+        (slot_unmoved spots outcomes m (task_at tasks m) (job_at jobs m) mask (job_at left m)
+        (λ task job et ej. none task job (record { its_task = et; its_job = before ∙ ej })) before clear)
 
-    pub closing_ends : Fated t (job_at left m) spots outcomes m ends_now
-        → ClosingBelow tasks jobs spots outcomes (m + 1) (bit_or mask (2 ^ m)) (set left m None)
-    closing_ends f =
-        one_more (bit_or mask (2 ^ m)) (set left m None) (length-set left m None ∙ b.sixteen) (or_lt (m + 1) mask (2 ^ m) more (pow-lt (omega arith)))
-        (λ s d. or_pow_other mask m s d) (λ s d. get_or-set_other left m s None None d)
-        (slot_ends spots outcomes m (task_at tasks m) (job_at jobs m) (bit_or mask (2 ^ m)) (job_at (set left m None) m) (fated ends_now f)
-        (get_or-set_same left m None None (omega (arith, b.sixteen))) (or_pow_same mask m))
+    module _ (task : Task) (job : Job) (h : Holds tasks left m task job) where
+      pub closing_ends : Leaves task job spots outcomes m None → ClosingBelow tasks jobs spots outcomes (m + 1) (bit_or mask (2 ^ m)) (set left m None)
+      closing_ends ended =
+          one_more (bit_or mask (2 ^ m)) (set left m None) (length-set left m None ∙ b.sixteen) (or_lt (m + 1) mask (2 ^ m) more (pow-lt (omega arith)))
+          (λ s d. or_pow_other mask m s d) (λ s d. get_or-set_other left m s None None d)
+          (slot_moved spots outcomes m (task_at tasks m) (job_at jobs m) task job (bit_or mask (2 ^ m)) (job_at (set left m None) m) h.its_task (sym before ∙ h.its_job)
+          (inl (record { ended = ended; gone = get_or-set_same left m None None (omega (arith, b.sixteen)); told = or_pow_same mask m })))
 
-    pub closing_stays : (later : Job) → Fated t (job_at left m) spots outcomes m (stays_with later)
-        → ClosingBelow tasks jobs spots outcomes (m + 1) mask (set left m (Some later))
-    closing_stays later f =
-        one_more mask (set left m (Some later)) (length-set left m (Some later) ∙ b.sixteen) more (λ s d. refl) (λ s d. get_or-set_other left m s (Some later) None d)
-        (slot_stays spots outcomes m (task_at tasks m) (job_at jobs m) mask (job_at (set left m (Some later)) m) later (fated (stays_with later) f)
-        (get_or-set_same left m (Some later) None (omega (arith, b.sixteen))) clear)
+      pub closing_stays : (later : Job) → Leaves task job spots outcomes m (Some later) → ClosingBelow tasks jobs spots outcomes (m + 1) mask (set left m (Some later))
+      closing_stays later moved =
+          one_more mask (set left m (Some later)) (length-set left m (Some later) ∙ b.sixteen) more (λ s d. refl)
+          (λ s d. get_or-set_other left m s (Some later) None d)
+          (slot_moved spots outcomes m (task_at tasks m) (job_at jobs m) task job mask (job_at (set left m (Some later)) m) h.its_task (sym before ∙ h.its_job)
+          (inr (record {
+            not_ended = moved.0;
+            later = later;
+            still = get_or-set_same left m (Some later) None (omega (arith, b.sixteen));
+            moved = moved.1;
+            not_told = clear;
+          })))
 
   pub closing_all : (mask : ℕ) (left : List (Option Job)) → ClosingBelow tasks jobs spots outcomes 16 mask left → Closed tasks jobs spots outcomes mask left
   closing_all mask left b = record { sixteen = b.sixteen; small = b.small; slots = b.done }

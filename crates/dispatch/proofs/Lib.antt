@@ -10,4 +10,3 @@ pub mod Readies
 pub mod Rights
 pub mod Rows
 pub mod Ticks
-pub mod Writes

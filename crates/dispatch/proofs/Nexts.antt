@@ -1,5 +1,5 @@
 -- The search gives the node that comes next.
-use Rattle.std.proofs.Common.{◌≡◌, ℕ, ◌/◌, ◌%◌, ◌^◌, ◌<◌, ◌⊎◌, List, Some, None, Option, sym, subst, inl, inr, MatchOption}
+use Rattle.std.proofs.Common.{◌≡◌, ℕ, ◌/◌, ◌%◌, ◌^◌, ◌<◌, ◌⊎◌, List, Some, None, Option, sym, refl, subst, inl, inr, MatchOption}
 use Rattle.std.proofs.lemmas.Bool.{cases_eq, cases_order}
 use Rattle.sets.specs.declared.bit_set.BitSet.{BitSet}
 use Rattle.sets.specs.Sets.{Has, Marks}
@@ -91,3 +91,13 @@ module _ (left kept ahead both : List BitSet) (slots : BitSet) (w : Marks (HasWa
       → MatchOption found (NoneMay (RowHas left) (AheadIn ahead)) (λ p. Next (RowHas left) (RowHas kept) (AheadIn ahead) p.slot p.node)
   next_or_none None none h = none_next h
   next_or_none (Some p) none h = next_any p.slot p.node none h
+
+  -- a kept node that leads, or else any node that does
+  pub next_found : (first result : Option Spot) → MatchOption first (NoneAhead both slots ahead 16) (λ p. FirstAhead both slots ahead p.slot p.node)
+      → (first ≡ None → MatchOption result (NoneAhead left slots ahead 16) (λ p. FirstAhead left slots ahead p.slot p.node))
+      → ((p : Spot) → first ≡ Some p → result ≡ Some p)
+      → MatchOption result (NoneMay (RowHas left) (AheadIn ahead)) (λ p. Next (RowHas left) (RowHas kept) (AheadIn ahead) p.slot p.node)
+  next_found None result none again same = next_or_none result none (again refl)
+  next_found (Some p) result found again same =
+      subst (λ (x : Option Spot). MatchOption x (NoneMay (RowHas left) (AheadIn ahead)) (λ q. Next (RowHas left) (RowHas kept) (AheadIn ahead) q.slot q.node))
+      (sym (same p refl)) (next_kept p.slot p.node found)

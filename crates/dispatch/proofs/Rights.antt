@@ -1,73 +1,50 @@
 -- Right outcomes, by the tables and by what a slot holds.
-use Rattle.std.proofs.Common.{◌≡◌, ℕ, ◌+◌, ◌<◌, ◌≤◌, ◌⊎◌, List, length, get_or, Some, None, Option, sym, refl, ◌∙◌, subst, inl, inr, arith}
-use Rattle.std.proofs.lemmas.List.{get_or_default, get_or_past}
-use Rattle.std.proofs.lemmas.Bool.{cases_eq}
+use Rattle.std.proofs.Common.{◌≡◌, ℕ, zero, suc, Bool, false, List, Some, None, Option, refl, subst, arith}
 use Rattle.jobs.specs.Job.{Outcome}
+use Rattle.sets.specs.Tests.{Says}
+use Rattle.sets.proofs.Says.{says_like, says_no}
 use Rattle.task.specs.declared.held.Task.{Task}
+use Rattle.dispatch.specs.declared.board.OpenJob.{OpenJob}
 use Rattle.dispatch.specs.declared.job.Job.{Job}
 use Rattle.dispatch.specs.declared.spot.Spot.{Spot}
-use Rattle.dispatch.specs.Closing.{meant, byte_at, Right, RightAt, RightFor, RightOn, AllRight}
-use Rattle.dispatch.specs.Moves.{RightOf, RightInSlot, Rights}
+use Rattle.dispatch.specs.Closing.{meant, byte_at, Right, RightAt, RightFor, AllRight}
+use Rattle.dispatch.specs.Moves.{RightInSlot, Suits}
 use Rattle.dispatch.specs.Spots.{spot}
-use Rattle.dispatch.specs.Tables.{task_at, job_at, task_nodes}
-use Rattle.dispatch.proofs.Rows.{below_last}
-
-pub some_task : (a b : Task) (x : Option Task) → x ≡ Some a → x ≡ Some b → a ≡ b
-some_task a b x e f = cc
-
-pub some_job : (a b : Job) (x : Option Job) → x ≡ Some a → x ≡ Some b → a ≡ b
-some_job a b x e f = cc
-
-none_task : (a : Task) (x : Option Task) → x ≡ Some a → x ≡ None → ⊥
-none_task a x e f = let z : ◌≡◌ {A = ℕ} 0 1 = cc in omega arith
+use Rattle.dispatch.specs.Tables.{task_at, job_at, task_nodes, Holds, OpenAt}
+use Rattle.dispatch.proofs.Rows.{some_task, some_job}
 
 module _ (tasks : List (Option Task)) (jobs : List (Option Job)) where
+  -- an outcome is right at a slot just where it is right for the job that is open there
   module _ (p : Spot) (o : Outcome) where
-    righted : (t : Option Task) (j : Option Job) → task_at tasks p.slot ≡ t → job_at jobs p.slot ≡ j → RightOf t j p.node o → RightAt tasks jobs p o
-    righted (Some t) (Some j) et ej h = record { task = t; its_task = et; job = j; its_job = ej; right = h }
-    righted (Some t) None et ej h = absurd h
-    righted None j et ej h = absurd h
+    right_at : (task : Task) (job : Job) → Holds tasks jobs p.slot task job → Right (task_nodes task) job.states p.node o → RightAt tasks jobs p o
+    right_at task job h r = record { task = task; its_task = h.its_task; job = job; its_job = h.its_job; right = r }
 
-    right_back : (t : Option Task) → task_at tasks p.slot ≡ t → RightAt tasks jobs p o → RightOf t (job_at jobs p.slot) p.node o
-    right_back t et r =
-        subst (λ (x : Option Task). RightOf x (job_at jobs p.slot) p.node o) (sym r.its_task ∙ et)
-        (subst (λ (x : Option Job). RightOf (Some r.task) x p.node o) (sym r.its_job) r.right)
+    right_there : (task : Task) (job : Job) → Holds tasks jobs p.slot task job → RightAt tasks jobs p o → Right (task_nodes task) job.states p.node o
+    right_there task job h r =
+        subst (λ (x : Task). Right (task_nodes x) job.states p.node o) (some_task r.task task (task_at tasks p.slot) r.its_task h.its_task)
+        (subst (λ (x : Job). Right (task_nodes r.task) x.states p.node o) (some_job r.job job (job_at jobs p.slot) r.its_job h.its_job) r.right)
 
-    -- of a slot that holds what the tables have there
-    pub right_of_at : (d : Option Task) → p.slot < length tasks → RightOf (get_or tasks p.slot d) (job_at jobs p.slot) p.node o → RightAt tasks jobs p o
-    right_of_at d l h = righted (get_or tasks p.slot d) (job_at jobs p.slot) (get_or_default tasks p.slot None d l) refl h
+    pub right_says : (held : Option OpenJob) (r : Bool) → OpenAt tasks jobs p.slot held → (held ≡ None → r ≡ false)
+        → ((x : OpenJob) → held ≡ Some x → Says r (Right (task_nodes x.task.now) x.job.now.states p.node o)) → Says r (RightAt tasks jobs p o)
+    right_says None r none clear found =
+        says_no r (clear refl) (λ h. none h.task h.job (record { its_task = h.its_task; its_job = h.its_job }))
+    right_says (Some x) r holds clear found =
+        says_like r (right_at x.task.now x.job.now holds) (right_there x.task.now x.job.now holds) (found x refl)
 
-    pub right_at_of : (d : Option Task) → p.slot < length tasks → RightAt tasks jobs p o → RightOf (get_or tasks p.slot d) (job_at jobs p.slot) p.node o
-    right_at_of d l r = right_back (get_or tasks p.slot d) (get_or_default tasks p.slot None d l) r
+  -- a byte is right for what a core ran just where what it means is
+  pub suits : (x : Option Spot) (byte : ℕ) → RightFor tasks jobs x byte → Suits tasks jobs x (meant byte)
+  suits None zero e = refl
+  suits None (suc b) e = absurd (let z : ◌≡◌ {A = ℕ} (suc b) 0 = e in omega arith)
+  suits (Some p) byte r = r
 
-    -- a slot past the tables holds nothing
-    pub past_wrong : length tasks ≤ p.slot → RightAt tasks jobs p o → ⊥
-    past_wrong l r = none_task r.task (task_at tasks p.slot) r.its_task (get_or_past tasks p.slot None l)
-
-  pub right_more : (spots : List (Option Spot)) (outcomes : List ℕ) (m : ℕ) → ((k : ℕ) → k < m → RightOn tasks jobs spots outcomes k)
-      → RightOn tasks jobs spots outcomes m → (k : ℕ) → k < m + 1 → RightOn tasks jobs spots outcomes k
-  right_more spots outcomes m before here k l = go (cases_eq k m)
-    where
-      go : (k ≡ m) ⊎ (k ≡ m → ⊥) → RightOn tasks jobs spots outcomes k
-      go (inl e) = subst (λ (i : ℕ). RightOn tasks jobs spots outcomes i) (sym e) here
-      go (inr d) = before k (below_last k m l d)
+  pub right_for : (x : Option Spot) (byte : ℕ) → Suits tasks jobs x (meant byte) → RightFor tasks jobs x byte
+  right_for None zero e = refl
+  right_for None (suc b) e = cc
+  right_for (Some p) byte r = r
 
   -- what is right on all cores is right for the job of each slot
   module _ (spots : List (Option Spot)) (outcomes : List ℕ) (all : AllRight tasks jobs spots outcomes) (s : ℕ) where
     pub rights : (t : Task) (j : Job) → task_at tasks s ≡ Some t → job_at jobs s ≡ Some j → RightInSlot (task_nodes t) j.states s spots outcomes
     rights t j et ej c n l e =
-        let r : RightAt tasks jobs (spot s n) (meant (byte_at outcomes c)) =
-        subst (λ (x : Option Spot). RightFor tasks jobs x (byte_at outcomes c)) e (all c l) in
-        subst (λ (x : Task). Right (task_nodes x) j.states n (meant (byte_at outcomes c))) (some_task r.task t (task_at tasks s) r.its_task et)
-        (subst (λ (x : Job). Right (task_nodes r.task) x.states n (meant (byte_at outcomes c))) (some_job r.job j (job_at jobs s) r.its_job ej) r.right)
-
-    pub slot_rights : (t : Option Task) (j : Option Job) → task_at tasks s ≡ t → job_at jobs s ≡ j → Rights t j s spots outcomes
-    slot_rights (Some t) (Some j) et ej = rights t j et ej
-    slot_rights (Some t) None et ej = tt
-    slot_rights None j et ej = tt
-
--- of a slot that is known to hold a task and an open job
-pub held_rights : (spots : List (Option Spot)) (outcomes : List ℕ) (s : ℕ) (t : Option Task) (j : Option Job) (task : Task) (job : Job) → t ≡ Some task → j ≡ Some job
-    → Rights t j s spots outcomes → RightInSlot (task_nodes task) job.states s spots outcomes
-held_rights spots outcomes s t j task job et ej r =
-    subst (λ (x : Option Job). Rights (Some task) x s spots outcomes) ej (subst (λ (x : Option Task). Rights x j s spots outcomes) et r)
+        right_there (spot s n) (meant (byte_at outcomes c)) t j (record { its_task = et; its_job = ej })
+        (subst (λ (x : Option Spot). RightFor tasks jobs x (byte_at outcomes c)) e (all c l))

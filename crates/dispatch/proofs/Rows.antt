@@ -1,58 +1,71 @@
--- Tables of sets by slot.
-use Rattle.std.proofs.Common.{◌≡◌, ℕ, ◌+◌, ◌<◌, ◌⊎◌, List, length, get_or, set, Some, None, Option, sym, refl, ◌∙◌, subst, inl, inr, arith}
-use Rattle.std.proofs.lemmas.List.{get_or_default, get_or-set_same, get_or-set_other, length-set}
+-- Arrays filled slot by slot, and tables of sets by slot.
+use Rattle.std.proofs.Common.{◌≡◌, ℕ, ◌+◌, ◌<◌, ◌≤◌, ◌⊎◌, List, Some, None, Option, get_or, zero, suc, sym, refl, subst, inl, inr, arith}
 use Rattle.std.proofs.lemmas.Bool.{cases_eq}
+use Rattle.std.specs.Array.{IsFromFnResult, IsFromFnResultFrom}
+use Rattle.std.specs.Fn.{Called}
+use denote.Param.Members.{Mut}
 use Rattle.sets.specs.declared.bit_set.BitSet.{BitSet}
 use Rattle.sets.specs.Sets.{Has, Marks}
-use Rattle.sets.proofs.Marked.{marks_like}
+use Rattle.jobs.specs.Job.{Ready}
+use Rattle.sets.proofs.Marked.{none_in_zero, marks_like}
 use Rattle.task.specs.declared.held.Task.{Task}
+use Rattle.dispatch.specs.declared.board.OpenJob.{OpenJob}
 use Rattle.dispatch.specs.declared.job.Job.{Job}
-use Rattle.dispatch.specs.Search.{ReadyOf, KeptOf, RowHas, AheadOfAll, NoneAhead}
-use Rattle.dispatch.specs.Tables.{no_number, task_at, job_at, row, ReadyIn, KeptIn}
+use Rattle.dispatch.specs.Search.{RowHas, AheadOfAll, NoneAhead}
+use Rattle.dispatch.specs.Tables.{no_number, task_at, job_at, task_nodes, task_arcs, OpenAt, row, ReadyIn, KeptIn}
 use Rattle.dispatch.proofs.Alike.{Alike}
+
+pub some_task : (a b : Task) (x : Option Task) → x ≡ Some a → x ≡ Some b → a ≡ b
+some_task a b x e f = cc
+
+pub some_job : (a b : Job) (x : Option Job) → x ≡ Some a → x ≡ Some b → a ≡ b
+some_job a b x e f = cc
 
 pub below_last : (b c : ℕ) → b < c + 1 → (b ≡ c → ⊥) → b < c
 below_last b c l d = grind arith
 
--- one row more
-pub rows_more : (P : ℕ → ℕ → Type 0) (rows : List BitSet) (k : ℕ) (r : BitSet) → k < 16
-    → (length rows ≡ 16) × ((s : ℕ) → s < k → Marks (P s) (row rows s)) → Marks (P k) r
-    → (length (set rows k r) ≡ 16) × ((s : ℕ) → s < k + 1 → Marks (P s) (row (set rows k r) s))
-rows_more P rows k r l w m = (length-set rows k r ∙ w.0, λ s ls. at s ls (cases_eq s k))
-  where
-    at : (s : ℕ) → s < k + 1 → (s ≡ k) ⊎ (s ≡ k → ⊥) → Marks (P s) (row (set rows k r) s)
-    at s ls (inl e) =
-        subst (λ (i : ℕ). Marks (P i) (row (set rows k r) i)) (sym e)
-        (subst (λ (x : BitSet). Marks (P k) x) (sym (get_or-set_same rows k r no_number (omega (arith, w.0)))) m)
-    at s ls (inr d) =
-        subst (λ (x : BitSet). Marks (P s) x) (sym (get_or-set_other rows k s r no_number d)) (w.1 s (below_last s k ls d))
+-- what is at each place of an array is what the function gave there, if it leaves what it holds as it was
+module _ {F B : Type 0} {g : Mut F (ℕ × Unit {0}) B} (P : ℕ → B → Type 0) (d : B) (items : List B) {f : F} {m : ℕ} where
+  made_from : ((i : ℕ) (y : B) (q : F) → i < m → Called g f (i, tt) y q → (q ≡ f) × P i y) → (n i : ℕ) → i + n ≤ m → IsFromFnResultFrom g f items i n
+      → (k : ℕ) → i ≤ k → k < i + n → P k (get_or items k d)
+  made_from gives zero i w h k a b = absurd (omega arith)
+  made_from gives (suc n) i w (q, y, e, c, rest) k a b = go (gives i y q (omega arith) c) (made_from gives n (i + 1) (omega arith)) (cases_eq k i)
+    where
+      go : (q ≡ f) × P i y → (IsFromFnResultFrom g f items (i + 1) n → (j : ℕ) → i + 1 ≤ j → j < i + 1 + n → P j (get_or items j d)) → (k ≡ i) ⊎ (k ≡ i → ⊥)
+          → P k (get_or items k d)
+      go told later (inl same) = subst (λ (j : ℕ). P j (get_or items j d)) (sym same) (subst (λ (x : B). P i x) (sym (e.1 d)) told.1)
+      go told later (inr other) =
+          later (subst (λ (x : F). IsFromFnResultFrom g x items (i + 1) n) told.0 rest) k (grind arith) (omega arith)
 
-module _ (tasks : List (Option Task)) (jobs : List (Option Job)) (k : ℕ) where
-  readied : (t : Option Task) (j : Option Job) → task_at tasks k ≡ t → job_at jobs k ≡ j → k < 16 → (n : ℕ) → ReadyOf t j n → ReadyIn tasks jobs k n
-  readied (Some t) (Some j) et ej l n h = record { slot_below = l; task = t; its_task = et; job = j; its_job = ej; ready = h }
-  readied (Some t) None et ej l n h = absurd h
-  readied None j et ej l n h = absurd h
+  pub made : IsFromFnResult g f items m → ((i : ℕ) (y : B) (q : F) → i < m → Called g f (i, tt) y q → (q ≡ f) × P i y) → (k : ℕ) → k < m → P k (get_or items k d)
+  made all gives k l = made_from gives m 0 (omega arith) all.each k (omega arith) (omega arith)
 
-  ready_back : (t : Option Task) (j : Option Job) → task_at tasks k ≡ t → job_at jobs k ≡ j → (n : ℕ) → ReadyIn tasks jobs k n → ReadyOf t j n
-  ready_back t j et ej n r =
-      subst (λ (x : Option Task). ReadyOf x j n) (sym r.its_task ∙ et)
-      (subst (λ (x : Option Job). ReadyOf (Some r.task) x n) (sym r.its_job ∙ ej) r.ready)
-
-  pub ready_row : (d : Option Task) (r : BitSet) → k < 16 → k < length tasks → Marks (ReadyOf (get_or tasks k d) (job_at jobs k)) r → Marks (ReadyIn tasks jobs k) r
-  ready_row d r l lt m =
-      let e : task_at tasks k ≡ get_or tasks k d = get_or_default tasks k None d lt in
-      marks_like m (readied (get_or tasks k d) (job_at jobs k) e refl l) (ready_back (get_or tasks k d) (job_at jobs k) e refl)
-
-module _ (jobs : List (Option Job)) (k : ℕ) where
-  keeps : (j : Option Job) → job_at jobs k ≡ j → (n : ℕ) → KeptOf j n → KeptIn jobs k n
-  keeps (Some j) e n h = record { job = j; its_job = e; placed = h }
-  keeps None e n h = absurd h
-
-  kept_back : (n : ℕ) → KeptIn jobs k n → KeptOf (job_at jobs k) n
-  kept_back n r = subst (λ (x : Option Job). KeptOf x n) (sym r.its_job) r.placed
-
-  pub kept_row : (r : BitSet) → Marks (KeptOf (job_at jobs k)) r → Marks (KeptIn jobs k) r
-  kept_row r m = marks_like m (keeps (job_at jobs k) refl) kept_back
+-- the nodes that are ready in a slot are those of the job that is open there
+pub ready_there : (tasks : List (Option Task)) (jobs : List (Option Job)) (s : ℕ) (held : Option OpenJob) (r : BitSet) → s < 16 → OpenAt tasks jobs s held
+    → (held ≡ None → r ≡ no_number)
+    → ((x : OpenJob) → held ≡ Some x → Marks (Ready (task_nodes x.task.now) (task_arcs x.task.now) x.job.now.states) r)
+    → Marks (ReadyIn tasks jobs s) r
+ready_there tasks jobs s None r l none empty found =
+    subst (λ (x : BitSet). Marks (ReadyIn tasks jobs s) x) (sym (empty refl))
+    (record {
+      only = λ n h. absurd (none_in_zero no_number refl n h);
+      every = λ n h. absurd (none h.task h.job (record { its_task = h.its_task; its_job = h.its_job }));
+    })
+ready_there tasks jobs s (Some x) r l holds empty found =
+    marks_like (found x refl)
+    (λ n h. record {
+      slot_below = l;
+      task = x.task.now;
+      its_task = holds.its_task;
+      job = x.job.now;
+      its_job = holds.its_job;
+      ready = h;
+    })
+    (λ n h.
+    let et : h.task ≡ x.task.now = some_task h.task x.task.now (task_at tasks s) h.its_task holds.its_task in
+    let ej : h.job ≡ x.job.now = some_job h.job x.job.now (job_at jobs s) h.its_job holds.its_job in
+    subst (λ (t : Task). Ready (task_nodes t) (task_arcs t) x.job.now.states n) et
+    (subst (λ (j : Job). Ready (task_nodes h.task) (task_arcs h.task) j.states n) ej h.ready))
 
 -- of the slots below m, one more goes ahead of all, or has no node
 pub none_ahead_more : (nodes : List BitSet) (slots : BitSet) (ahead : List BitSet) (m : ℕ) → NoneAhead nodes slots ahead m

@@ -12,7 +12,8 @@ use Rattle.dispatch.specs.Statements.{RightIsAllowed}
 use Rattle.dispatch.specs.Tables.{task_at, job_at, task_nodes, task_arcs, ReadyIn, KeptIn, AheadIn}
 use Rattle.dispatch.proofs.Facts.{places_once}
 use Rattle.dispatch.proofs.Outcomes.{OnCore, on_core}
-use Rattle.dispatch.proofs.Rights.{some_task, some_job, rights}
+use Rattle.dispatch.proofs.Rights.{rights}
+use Rattle.dispatch.proofs.Rows.{some_task, some_job}
 
 module _ (tasks : List (Option Task)) (jobs : List (Option Job)) (spots : List (Option Spot)) (outcomes : List ℕ) where
   -- where the cores run ready nodes and their outcomes are right

@@ -8,13 +8,23 @@ use Rattle.table.specs.declared.records.Node.{Node}
 use Rattle.table.specs.declared.records.Role.{Role}
 use Rattle.table.specs.declared.records.Role.TheVariants.{Opening}
 use Rattle.task.specs.declared.held.Task.{Task}
-use Rattle.dispatch.specs.declared.closing.Fate.{Fate}
-use Rattle.dispatch.specs.declared.closing.Fate.TheVariants.{Unmoved, Ends, Stays}
 use Rattle.dispatch.specs.declared.job.Job.{Job}
+use Rattle.dispatch.specs.declared.outcome.Outcome.{Outcome as NodeOutcome}
+use Rattle.dispatch.specs.declared.outcome.Outcome.TheVariants.{GoesOn, Ends}
 use Rattle.dispatch.specs.declared.spot.Spot.{Spot}
-use Rattle.dispatch.specs.Closing.{meant, byte_at, outcome_below, Right, states_after, Moved}
+use Rattle.dispatch.specs.Closing.{meant, byte_at, outcome_below, Right, RightAt, states_after, Moved}
 use Rattle.dispatch.specs.Spots.{spot, spot_at, HasCore}
 use Rattle.dispatch.specs.Tables.{task_nodes, task_arcs}
+
+-- what an outcome of a node with a core says
+abbrev pub said : NodeOutcome → Outcome
+said GoesOn = goes_on
+said (Ends b) = ends_with b
+
+-- a node of this role may end with the branch b: an opening with one of these branches, any other with 0
+pub record EndsFitly (role : Role) (branches : BitSet) (b : ℕ) : Type 0 where
+  pub branch_there : role ≡ Opening → Has branches b
+  pub else_zero : role ≢ Opening → b ≡ 0
 
 -- the outcome is right for a node of this role, time and branches, in this state
 pub record Fits (role : Role) (time : ℕ) (branches : BitSet) (s : NodeState) (o : Outcome) : Type 0 where
@@ -33,37 +43,23 @@ abbrev pub MovesTo : List Node → List NodeState → ℕ → Outcome → Option
 MovesTo ns job v o (Some s) = Brings ns job v o s
 MovesTo ns job v o None = Right ns job v o → ⊥
 
--- the slot holds a task and an open job, and the outcome is right for its node
-abbrev pub RightOf : Option Task → Option Job → ℕ → Outcome → Type 0
-RightOf (Some task) (Some job) n o = Right (task_nodes task) job.states n o
-RightOf (Some task) None n o = ⊥
-RightOf None job n o = ⊥
+-- the outcome is right for what a core ran: an idle one goes on
+abbrev pub Suits : List (Option Task) → List (Option Job) → Option Spot → Outcome → Type 0
+Suits tasks jobs None o = o ≡ goes_on
+Suits tasks jobs (Some p) o = RightAt tasks jobs p o
 
 -- the outcomes are right on all cores that run nodes of the job in slot s
 abbrev pub RightInSlot : List Node → List NodeState → ℕ → List (Option Spot) → List ℕ → Type 0
 RightInSlot ns job s spots outcomes =
     (c n : ℕ) → c < length outcomes → spot_at spots c ≡ Some (spot s n) → Right ns job n (meant (byte_at outcomes c))
 
--- the same where the slot holds a task and an open job
-abbrev pub Rights : Option Task → Option Job → ℕ → List (Option Spot) → List ℕ → Type 0
-Rights (Some task) (Some job) s spots outcomes = RightInSlot (task_nodes task) job.states s spots outcomes
-Rights (Some task) None s spots outcomes = Unit {0}
-Rights None job s spots outcomes = Unit {0}
-
 -- what the cores below m make of the nodes of slot s, and which of these they run
 pub record Runs (spots : List (Option Spot)) (outcomes : List ℕ) (m s : ℕ) (job later : List NodeState) (placed : BitSet) : Type 0 where
   pub states : later ≡ after (outcome_below spots outcomes m s) job
   pub marked : Marks (HasCore spots m s) placed
 
--- what the tick makes of the job in slot s
-abbrev pub JobFated : Task → Job → List (Option Spot) → List ℕ → ℕ → Fate → Type 0
-JobFated task job spots outcomes s Unmoved = ⊥
-JobFated task job spots outcomes s Ends = JobEnded (task_nodes task) (task_arcs task) (states_after spots outcomes s job)
-JobFated task job spots outcomes s (Stays later) =
+-- what the tick leaves of the job in slot s: nothing where it ended
+abbrev pub Leaves : Task → Job → List (Option Spot) → List ℕ → ℕ → Option Job → Type 0
+Leaves task job spots outcomes s None = JobEnded (task_nodes task) (task_arcs task) (states_after spots outcomes s job)
+Leaves task job spots outcomes s (Some later) =
     (JobEnded (task_nodes task) (task_arcs task) (states_after spots outcomes s job) → ⊥) × Moved spots outcomes s job later
-
--- what the tick makes of the slot s
-abbrev pub Fated : Option Task → Option Job → List (Option Spot) → List ℕ → ℕ → Fate → Type 0
-Fated (Some task) (Some job) spots outcomes s fate = JobFated task job spots outcomes s fate
-Fated (Some task) None spots outcomes s fate = fate ≡ Unmoved
-Fated None job spots outcomes s fate = fate ≡ Unmoved

@@ -1,27 +1,14 @@
 -- How the ready nodes and the next node are looked for: words for the parts of the search.
-use Rattle.std.specs.Prelude.{◌≡◌, ℕ, ◌<◌, List, Some, None, Option}
+use Rattle.std.specs.Prelude.{◌≡◌, ℕ, ◌<◌, List}
 use Rattle.jobs.specs.declared.node_state.NodeState.{NodeState}
-use Rattle.jobs.specs.Job.{HasEnded, Taken, Ready}
+use Rattle.jobs.specs.Job.{HasEnded, Taken}
 use Rattle.sets.specs.declared.bit_set.BitSet.{BitSet}
 use Rattle.sets.specs.Sets.{Has, Least}
 use Rattle.table.specs.declared.records.Arc.{Arc}
 use Rattle.table.specs.declared.records.Node.{Node}
 use Rattle.table.specs.declared.records.Role.TheVariants.{Closing}
 use Rattle.task.specs.Graph.{role, IsNode, from, to}
-use Rattle.task.specs.declared.held.Task.{Task}
-use Rattle.dispatch.specs.declared.job.Job.{Job}
-use Rattle.dispatch.specs.Tables.{row, task_nodes, task_arcs}
-
--- the slot holds a task and an open job, in which the node n is ready
-abbrev pub ReadyOf : Option Task → Option Job → ℕ → Type 0
-ReadyOf (Some task) (Some job) n = Ready (task_nodes task) (task_arcs task) job.states n
-ReadyOf (Some task) None n = ⊥
-ReadyOf None job n = ⊥
-
--- the slot's open job had the node n on a core in the tick closed last
-abbrev pub KeptOf : Option Job → ℕ → Type 0
-KeptOf (Some job) n = Has job.placed n
-KeptOf None n = ⊥
+use Rattle.dispatch.specs.Tables.{row}
 
 -- taken and not ended: a node after it has to wait
 pub record UnderWay (ns : List Node) (job : List NodeState) (v : ℕ) : Type 0 where

@@ -1,5 +1,5 @@
 -- The tasks and the open jobs by slot, and what they say of a node: that it is ready, that it was kept, and whose job goes ahead.
-use Rattle.std.specs.Prelude.{◌≡◌, ℕ, ◌<◌, List, Some, None, Option, slice_index_or}
+use Rattle.std.specs.Prelude.{◌≡◌, ℕ, ◌<◌, List, Some, None, Option, replicate, slice_index_or}
 use Rattle.jobs.specs.Job.{Ready, released}
 use Rattle.sets.specs.declared.bit_set.BitSet.{BitSet}
 use Rattle.sets.specs.Sets.{Has}
@@ -7,6 +7,8 @@ use Rattle.table.specs.declared.records.Arc.{Arc}
 use Rattle.table.specs.declared.records.Node.{Node}
 use Rattle.task.specs.declared.held.Task.{Task}
 use Rattle.task.specs.Held.{nodes_of, arcs_of}
+use Rattle.dispatch.specs.declared.board.Board.{Board}
+use Rattle.dispatch.specs.declared.board.OpenJob.{OpenJob}
 use Rattle.dispatch.specs.declared.job.Job.{Job}
 use Rattle.dispatch.specs.declared.spot.Spot.{Spot}
 use Rattle.dispatch.specs.Placing.{Placed}
@@ -31,6 +33,20 @@ task_nodes task = nodes_of task.table
 
 abbrev pub task_arcs : Task → List Arc
 task_arcs task = arcs_of task.table
+
+-- the board at the start: no slot holds a task
+abbrev pub no_tasks : Board
+no_tasks = record { tasks = replicate 16 None; jobs = replicate 16 None }
+
+-- the slot s holds the task and its open job
+pub record Holds (tasks : List (Option Task)) (jobs : List (Option Job)) (s : ℕ) (task : Task) (job : Job) : Type 0 where
+  pub its_task : task_at tasks s ≡ Some task
+  pub its_job : job_at jobs s ≡ Some job
+
+-- what the slot s holds, where it holds a task and an open job
+abbrev pub OpenAt : List (Option Task) → List (Option Job) → ℕ → Option OpenJob → Type 0
+OpenAt tasks jobs s (Some held) = Holds tasks jobs s held.task.now held.job.now
+OpenAt tasks jobs s None = (task : Task) (job : Job) → Holds tasks jobs s task job → ⊥
 
 -- the slot s holds a task and an open job, in which the node n is ready
 pub record ReadyIn (tasks : List (Option Task)) (jobs : List (Option Job)) (s n : ℕ) : Type 0 where

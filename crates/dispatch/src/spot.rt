@@ -1,9 +1,9 @@
 // What the cores run in a tick.
 ghost use Rattle.std.specs.Prelude.{◌≡◌, ◌≤◌, length};
-ghost use Rattle.dispatch.specs.Spots.{number, Written};
+ghost use Rattle.dispatch.specs.Spots.{number, told, Written};
 
 // A node of the open job in a slot.
-#[derive(Clone, Copy, Drop)]
+#[derive(Clone, Copy, Debug, PartialEq, Eq, Drop)]
 pub struct Spot {
     pub slot: u8,
     pub node: u8,
@@ -13,7 +13,7 @@ pub struct Spot {
 pub type Spots = [Option<Spot>; 16];
 
 // What each core runs, and how many are busy.
-#[derive(Clone, Copy, Drop)]
+#[derive(Clone, Copy, Debug, PartialEq, Eq, Drop)]
 pub struct Placing {
     pub spots: Spots,
     pub busy: u8,
@@ -27,8 +27,15 @@ impl Spot {
     pub fn number(self) -> u16
         ensures { result ≡ number self }
     {
-        256 * self.slot as u16 + self.node as u16
+        256 * u16::from(self.slot) + u16::from(self.node)
     }
+}
+
+// What a core list has for what a core runs.
+fn told(spot: Option<Spot>) -> u16
+    ensures { result ≡ told spot }
+{
+    spot.map_or(IDLE, Spot::number)
 }
 
 // Writes what each of the cores runs; entries beyond the cores stay.
@@ -36,10 +43,6 @@ pub fn write_spots(spots: &Spots, cores: u8, list: &mut [u16])
     requires { (cores ≤ 16) × (cores ≤ length list.old) }
     ensures { Written spots.now cores list.old list.new }
 {
-    for core in 0..cores as usize {
-        list[core] = match spots[core] {
-            Some(spot) => spot.number(),
-            None => IDLE,
-        };
-    }
+    let cores = usize::from(cores);
+    list[..cores].copy_from_slice(&spots.map(told)[..cores]);
 }

@@ -1,9 +1,8 @@
 // Runs ticks of the example tasks and prints what each core runs and what came of it, for the gate to compare.
 #![tactic(auto)]
 
-use dispatch::closing::{close, first_wrong};
+use dispatch::board::Board;
 use dispatch::job::Job;
-use dispatch::placing::place;
 use dispatch::spot::write_spots;
 use sets::bit_set::BitSet;
 use std::fs;
@@ -11,20 +10,12 @@ use task::Task;
 
 // The slots from one on.
 fn slots_from(slot: usize) -> BitSet {
-    let mut slots = BitSet::EMPTY;
-    for k in slot..16 {
-        slots = slots.with(k);
-    }
-    slots
+    BitSet::select(16, |k| slot <= k)
 }
 
 // The smaller slot goes ahead.
 fn fixed_order() -> [BitSet; 16] {
-    let mut ahead = [BitSet::EMPTY; 16];
-    for slot in 0..16 {
-        ahead[slot] = slots_from(slot);
-    }
-    ahead
+    std::array::from_fn(slots_from)
 }
 
 // Every job goes ahead of every other.
@@ -35,31 +26,26 @@ fn open_order() -> [BitSet; 16] {
 // Opens a tick on as many cores as there are outcomes, prints what they run as slot.node, and closes it.
 fn tick(
     rt: &HostRuntime,
-    tasks: &[Option<Task>; 16],
-    jobs: &mut [Option<Job>; 16],
+    board: &mut Board,
     ahead: &[BitSet; 16],
     outcomes: &[u8],
 ) -> anyhow::Result<()> {
-    let cores = if outcomes.len() < 16 {
-        outcomes.len() as u8
-    } else {
-        16
-    };
-    let placing = place(tasks, jobs, ahead, cores);
-    let mut list = [0u16; 16];
-    write_spots(&placing.spots, cores, &mut list);
+    let cores = outcomes.len().min(16);
+    let placing = board.place(ahead, cores as u8);
+    let mut list = [0; 16];
+    write_spots(&placing.spots, cores as u8, &mut list);
     print!(rt; "  {} busy:", placing.busy)?;
-    for number in &list[0..cores as usize] {
+    for number in &list[..cores] {
         if *number == 65_535 {
             print!(rt; " idle")?;
         } else {
             print!(rt; " {}.{}", *number / 256, *number % 256)?;
         }
     }
-    let told = &outcomes[0..cores as usize];
-    match first_wrong(tasks, jobs, &placing.spots, told) {
+    let told = &outcomes[..cores];
+    match board.first_wrong(&placing.spots, told) {
         Some(core) => println!(rt; "; wrong on core {core}")?,
-        None => println!(rt; "; ended {}", close(tasks, jobs, &placing.spots, told))?,
+        None => println!(rt; "; ended {}", board.close(&placing.spots, told))?,
     }
     Ok(())
 }
@@ -67,26 +53,24 @@ fn tick(
 // One task on one core, and that it goes on for no longer than its time.
 fn alone(rt: &HostRuntime, lamp: Task) -> anyhow::Result<()> {
     println!(rt; "lamp alone on one core: five ticks on, a sixth is wrong, then it ends")?;
-    let mut tasks = [None; 16];
-    let mut jobs = [None; 16];
-    tasks[0] = Some(lamp);
-    jobs[0] = Some(Job::new());
+    let mut board = Board::new();
+    board.tasks[0] = Some(lamp);
+    board.jobs[0] = Some(Job::new());
     for _ in 0..6 {
-        tick(rt, &tasks, &mut jobs, &fixed_order(), &[0])?;
+        tick(rt, &mut board, &fixed_order(), &[0])?;
     }
-    tick(rt, &tasks, &mut jobs, &fixed_order(), &[2])?;
-    tick(rt, &tasks, &mut jobs, &fixed_order(), &[1])?;
-    tick(rt, &tasks, &mut jobs, &fixed_order(), &[1])
+    tick(rt, &mut board, &fixed_order(), &[2])?;
+    tick(rt, &mut board, &fixed_order(), &[1])?;
+    tick(rt, &mut board, &fixed_order(), &[1])
 }
 
 // The conditional task on two cores, with the outcomes tick by tick.
 fn on_two(rt: &HostRuntime, splice: Task, script: &[[u8; 2]]) -> anyhow::Result<()> {
-    let mut tasks = [None; 16];
-    let mut jobs = [None; 16];
-    tasks[3] = Some(splice);
-    jobs[3] = Some(Job::new());
+    let mut board = Board::new();
+    board.tasks[3] = Some(splice);
+    board.jobs[3] = Some(Job::new());
     for outcomes in script {
-        tick(rt, &tasks, &mut jobs, &fixed_order(), outcomes)?;
+        tick(rt, &mut board, &fixed_order(), outcomes)?;
     }
     Ok(())
 }
@@ -99,39 +83,38 @@ fn preempted(
     splice: Task,
     ahead: &[BitSet; 16],
 ) -> anyhow::Result<()> {
-    let mut tasks = [None; 16];
-    let mut jobs = [None; 16];
-    tasks[0] = Some(lamp);
-    tasks[1] = Some(splice);
-    jobs[1] = Some(Job::new());
-    tick(rt, &tasks, &mut jobs, ahead, &[1])?;
-    tick(rt, &tasks, &mut jobs, ahead, &[0])?;
-    jobs[0] = Some(Job::new());
-    tick(rt, &tasks, &mut jobs, ahead, &[0])?;
-    tick(rt, &tasks, &mut jobs, ahead, &[1])?;
+    let mut board = Board::new();
+    board.tasks[0] = Some(lamp);
+    board.tasks[1] = Some(splice);
+    board.jobs[1] = Some(Job::new());
+    tick(rt, &mut board, ahead, &[1])?;
+    tick(rt, &mut board, ahead, &[0])?;
+    board.jobs[0] = Some(Job::new());
+    tick(rt, &mut board, ahead, &[0])?;
+    tick(rt, &mut board, ahead, &[1])?;
     for _ in 0..9 {
-        tick(rt, &tasks, &mut jobs, ahead, &[0])?;
+        tick(rt, &mut board, ahead, &[0])?;
     }
-    tick(rt, &tasks, &mut jobs, ahead, &[1])
+    tick(rt, &mut board, ahead, &[1])
 }
 
 // Sixteen jobs on sixteen cores.
 fn sixteen(rt: &HostRuntime, lamp: Task) -> anyhow::Result<()> {
     println!(rt; "sixteen lamps on sixteen cores")?;
-    let tasks = [Some(lamp); 16];
-    let mut jobs = [Some(Job::new()); 16];
-    tick(rt, &tasks, &mut jobs, &open_order(), &[0; 16])?;
+    let mut board = Board {
+        tasks: [Some(lamp); 16],
+        jobs: [Some(Job::new()); 16],
+    };
+    tick(rt, &mut board, &open_order(), &[0; 16])?;
     tick(
         rt,
-        &tasks,
-        &mut jobs,
+        &mut board,
         &fixed_order(),
         &[1, 0, 0, 0, 0, 0, 0, 0, 0, 0, 0, 0, 0, 0, 0, 1],
     )?;
     tick(
         rt,
-        &tasks,
-        &mut jobs,
+        &mut board,
         &fixed_order(),
         &[1, 1, 1, 1, 1, 1, 1, 1, 1, 1, 1, 1, 1, 1, 0, 0],
     )
