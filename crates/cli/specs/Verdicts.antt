@@ -7,8 +7,8 @@ use Rattle.bounds.specs.declared.rise.Passed.{Passed}
 use Rattle.bounds.specs.Equation.{Caps, Told}
 use Rattle.plans.specs.declared.plan.Precedence.{Precedence}
 use Rattle.plans.specs.declared.plan.Precedence.TheVariants.{Fixed, Open}
-use Rattle.cli.specs.declared.planning.Verdict.{Verdict}
-use Rattle.cli.specs.declared.planning.Verdict.TheVariants.{Admitted, NoBounds, NoSuchCores}
+use Rattle.cli.specs.declared.planning.NotAdmitted.{NotAdmitted}
+use Rattle.cli.specs.declared.planning.NotAdmitted.TheVariants.{NoBounds, NoSuchCores}
 
 abbrev pub caps_under : Precedence → Caps
 caps_under Fixed = slot_cap
@@ -21,13 +21,8 @@ pub record Answered (cores : ℕ) (slots : List (Option Demand)) (most : Caps) (
   pub slots_are : plan.slots ≡ slots
   pub told : Told most plan answer
 
--- the verdict for an answer
-abbrev pub verdict_of : Result (List ℕ) Passed → Verdict
-verdict_of (Ok bounds) = Admitted bounds
-verdict_of (Err passed) = NoBounds passed.slot
-
--- the verdict is that of the least bounds under the order, where the cores are 1 to 16
-abbrev pub Judged : ℕ → Precedence → List (Option Demand) → Verdict → Type 0
-Judged cores order slots (Admitted bounds) = Answered cores slots (caps_under order) (Ok bounds)
-Judged cores order slots (NoBounds slot) = Answered cores slots (caps_under order) (Err (record { slot = slot }))
-Judged cores order slots NoSuchCores = 1 ≤ cores → cores ≤ 16 → ⊥
+-- r is the least bounds under the order, or the slot that has none, where the cores are 1 to 16
+abbrev pub Judged : ℕ → Precedence → List (Option Demand) → Result (List ℕ) NotAdmitted → Type 0
+Judged cores order slots (Ok bounds) = Answered cores slots (caps_under order) (Ok bounds)
+Judged cores order slots (Err (NoBounds passed)) = Answered cores slots (caps_under order) (Err passed)
+Judged cores order slots (Err (NoSuchCores told)) = (told ≡ cores) × (1 ≤ cores → cores ≤ 16 → ⊥)

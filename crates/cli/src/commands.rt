@@ -33,7 +33,7 @@ example:
     node  0  plain          top             time     6
 ";
 
-#[derive(Clone, Copy, Drop)]
+#[derive(Clone, Copy, Debug, PartialEq, Eq, Drop)]
 pub(crate) enum Verb {
     Help,
     Check,
@@ -53,7 +53,7 @@ pub(crate) fn named_by(word: &str) -> Option<Verb>
 }
 
 // A command, with what it works on.
-#[derive(Clone, Copy, Drop)]
+#[derive(Clone, Copy, Debug, PartialEq, Eq, Drop)]
 pub enum Command<'a> {
     Help,
     Check { files: &'a [String] },
@@ -61,7 +61,7 @@ pub enum Command<'a> {
 }
 
 // Words that are no command.
-#[derive(Clone, Copy, Drop)]
+#[derive(Clone, Copy, Debug, PartialEq, Eq, Drop)]
 pub enum Misuse<'a> {
     NoCommand,
     Unknown { word: &'a str },
@@ -70,6 +70,7 @@ pub enum Misuse<'a> {
 }
 
 // What the words after the program's own name ask for.
+#[tactic(auto, using(crate::proofs::CheckLines::check_line, crate::proofs::CheckLines::plan_line))]
 pub fn parse(words: &[String]) -> Result<Command<'_>, Misuse<'_>>
     ensures { Parsed words.now result }
 {

@@ -1,11 +1,12 @@
 // The figures of a task: its use of a core, a longest path, and the branches with the worst total.
-use std::fmt;
-use table::records::{Node, Role};
+use crate::wording::write_list;
+use std::{fmt, iter};
+use table::records::Role;
 use task::Task;
 use workload::measures::{lengths_from, nodes_taken, worst_settling};
 
 // The share of one core that a task of this total and period needs at worst.
-#[derive(Clone, Copy, Drop)]
+#[derive(Clone, Copy, Debug, PartialEq, Eq, Drop)]
 pub struct Share {
     pub total: u64,
     pub period: u32,
@@ -31,53 +32,50 @@ pub struct LongestPath<'a>(pub &'a Task);
 
 impl fmt::Display for LongestPath<'_> {
     fn fmt<W: fmt::Write>(&self, f: &mut fmt::Formatter<W>) -> fmt::Result {
-        let lengths = lengths_from(self.0);
-        let mut at = start_of(&lengths);
-        write!(f, "{at}")?;
-        for _ in 1..64 {
-            let Some(next) = next_of(self.0, &lengths, at) else {
-                return Ok(());
-            };
-            write!(f, " -> {next}")?;
-            at = next;
-        }
-        Ok(())
+        let lengths = Lengths::of(self.0);
+        let path = iter::successors(Some(lengths.start()), |&at| lengths.next(at));
+        write_list(f, path.take(64), " -> ")
     }
 }
 
-// The first node with the greatest length.
-fn start_of(lengths: &[u64; 64]) -> usize {
-    let mut start = 0;
-    let mut most = 0;
-    for (v, length) in lengths.iter().enumerate() {
-        if *length > most {
-            most = *length;
-            start = v;
+// The greatest length of a path from each node of a task.
+#[derive(Drop)]
+struct Lengths<'a> {
+    task: &'a Task,
+    by_node: [u64; 64],
+}
+
+impl<'a> Lengths<'a> {
+    fn of(task: &'a Task) -> Lengths<'a> {
+        Lengths {
+            task,
+            by_node: lengths_from(task),
         }
     }
-    start
-}
 
-// A node that an arc leads to from `at` and whose length is what is left after `at`.
-fn next_of(task: &Task, lengths: &[u64; 64], at: usize) -> Option<usize> {
-    let left = length_at(lengths, at).saturating_sub(time_at(task.nodes(), at));
-    for arc in task.arcs() {
-        let to = usize::from(arc.to);
-        if usize::from(arc.from) == at && length_at(lengths, to) == left {
-            return Some(to);
-        }
+    fn at(&self, v: usize) -> u64 {
+        self.by_node.get(v).copied().unwrap_or(0)
     }
-    None
-}
 
-fn length_at(lengths: &[u64; 64], v: usize) -> u64 {
-    lengths.get(v).copied().unwrap_or(0)
-}
+    // The first node with the greatest length.
+    fn start(&self) -> usize {
+        let lengths = self.by_node.iter().enumerate();
+        // the last of equals is taken
+        let start = lengths.rev().max_by_key(|(_, length)| **length);
+        start.map_or(0, |(v, _)| v)
+    }
 
-fn time_at(nodes: &[Node], v: usize) -> u64 {
-    match nodes.get(v) {
-        Some(node) => u64::from(node.time),
-        None => 0,
+    // A node that an arc leads to from `at` and whose length is what is left after `at`.
+    fn next(&self, at: usize) -> Option<usize> {
+        let node = self.task.nodes().get(at)?;
+        let left = self.at(at).saturating_sub(u64::from(node.time));
+        let mut targets = self
+            .task
+            .arcs()
+            .iter()
+            .filter(|arc| usize::from(arc.from) == at)
+            .map(|arc| usize::from(arc.to));
+        targets.find(|&to| self.at(to) == left)
     }
 }
 
@@ -89,25 +87,34 @@ impl fmt::Display for WorstBranches<'_> {
     fn fmt<W: fmt::Write>(&self, f: &mut fmt::Formatter<W>) -> fmt::Result {
         let picks = worst_settling(self.0).picks;
         let taken = nodes_taken(self.0, &picks);
-        let mut first = true;
-        for (v, pick) in picks.iter().enumerate() {
-            if taken.has(v) && is_opening(self.0.nodes(), v) {
-                let comma = if first { "" } else { ", " };
-                write!(f, "{comma}branch {pick} of {v}")?;
-                first = false;
-            }
+        let mut picked = self
+            .0
+            .nodes()
+            .iter()
+            .zip(picks.iter())
+            .enumerate()
+            .filter(|(v, (node, _))| taken.has(*v) && node.role == Role::Opening)
+            .map(|(opening, (_, branch))| Picked {
+                branch: *branch,
+                opening,
+            })
+            .peekable();
+        if picked.peek().is_none() {
+            return f.write_str("no branches");
         }
-        if first {
-            f.write_str("no branches")
-        } else {
-            Ok(())
-        }
+        write_list(f, picked, ", ")
     }
 }
 
-fn is_opening(nodes: &[Node], v: usize) -> bool {
-    match nodes.get(v) {
-        Some(node) => matches!(node.role, Role::Opening),
-        None => false,
+// The branch that is taken of an opening.
+#[derive(Clone, Copy, Debug, PartialEq, Eq, Drop)]
+struct Picked {
+    branch: u8,
+    opening: usize,
+}
+
+impl fmt::Display for Picked {
+    fn fmt<W: fmt::Write>(&self, f: &mut fmt::Formatter<W>) -> fmt::Result {
+        write!(f, "branch {} of {}", self.branch, self.opening)
     }
 }

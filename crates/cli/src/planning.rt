@@ -1,51 +1,75 @@
 // The tasks of a plan with their figures, and what admission answers.
 ghost use Rattle.std.specs.Prelude.{◌≡◌, ◌<◌, ◌≤◌, Some as SomeDemand, slice_set};
-ghost use Rattle.cli.specs.Verdicts.{Judged, verdict_of};
+ghost use Rattle.cli.specs.Verdicts.{Judged};
+ghost use Rattle.cli.specs.declared.planning.NotAdmitted.TheVariants.{NoBounds};
 
 use crate::figures::Share;
-use crate::wording::plural;
+use crate::wording::Count;
 use bounds::{Demand, Passed, Plan, least_bounds};
-use order::{Fixed, Open};
+use order::{Fixed, Open, Slot};
 use plans::plan::Precedence;
 use std::fmt;
 
-// A task of a plan.
-#[derive(Clone, Copy, Drop)]
+// A task of a plan, and what it asks.
+#[derive(Clone, Copy, Debug, PartialEq, Eq, Drop)]
 pub(crate) struct Row<'a> {
     pub name: &'a str,
     pub slot: u8,
-    pub period: u32,
-    pub deadline: u32,
-    pub length: u64,
-    pub total: u64,
+    pub demand: Demand,
 }
 
-impl<'a> Row<'a> {
-    pub(crate) fn new(name: &'a str, slot: u8, demand: Demand) -> Row<'a> {
-        Row {
-            name,
-            slot,
-            period: demand.period,
-            deadline: demand.deadline,
-            length: demand.longest,
-            total: demand.total,
-        }
-    }
-
+impl Row<'_> {
     fn share(&self) -> Share {
         Share {
-            total: self.total,
-            period: self.period,
+            total: self.demand.total,
+            period: self.demand.period,
         }
+    }
+
+    // The bound of its slot.
+    fn bound(&self, bounds: &[u32; 16]) -> u32 {
+        bounds.get(usize::from(self.slot)).copied().unwrap_or(0)
     }
 }
 
-// What a plan is told.
-#[derive(Clone, Copy, Drop)]
-pub(crate) enum Verdict {
-    Admitted { bounds: [u32; 16] },
-    NoBounds { slot: usize },
-    NoSuchCores,
+impl fmt::Display for Row<'_> {
+    fn fmt<W: fmt::Write>(&self, f: &mut fmt::Formatter<W>) -> fmt::Result {
+        let Row { name, slot, demand } = *self;
+        write!(f, "{slot:>4} {name:<12} ")?;
+        write!(f, "{:>8} {:>8} ", demand.period, demand.deadline)?;
+        write!(f, "{:>7} {:>7} ", demand.longest, demand.total)?;
+        let tenths = self.share().tenths();
+        write!(f, "{:>5}.{}%", tenths / 10, tenths % 10)
+    }
+}
+
+// Why a plan is not admitted.
+#[derive(Clone, Copy, Debug, PartialEq, Eq, Drop)]
+pub(crate) enum NotAdmitted {
+    NoBounds(Passed),
+    NoSuchCores { cores: u8 },
+}
+
+impl From<Passed> for NotAdmitted {
+    ghost from_gives = { λ passed refusal. refusal ≡ NoBounds passed };
+
+    fn from(passed: Passed) -> NotAdmitted {
+        NotAdmitted::NoBounds(passed)
+    }
+}
+
+impl fmt::Display for NotAdmitted {
+    fn fmt<W: fmt::Write>(&self, f: &mut fmt::Formatter<W>) -> fmt::Result {
+        match self {
+            NotAdmitted::NoBounds(Passed { slot }) => write!(
+                f,
+                "refused 10: no bounds keep every deadline; slot {slot} passes its own"
+            ),
+            NotAdmitted::NoSuchCores { cores } => {
+                write!(f, "refused 1: the cores must be 1 to 16, not {cores}")
+            }
+        }
+    }
 }
 
 // What the tasks ask, by slot.
@@ -56,41 +80,30 @@ pub(crate) fn seat(slots: &mut Slots, slot: u8, demand: Demand)
     ensures there { slot < 16 → slots.new ≡ slice_set slots.old slot (SomeDemand demand) }
     ensures elsewhere { 16 ≤ slot → slots.new ≡ slots.old }
 {
-    let slot = usize::from(slot);
-    if slot < 16 {
-        slots[slot] = Some(demand);
-    }
-}
-
-fn told(answer: Result<[u32; 16], Passed>) -> Verdict
-    ensures { result ≡ verdict_of answer }
-{
-    match answer {
-        Ok(bounds) => Verdict::Admitted { bounds },
-        Err(passed) => Verdict::NoBounds { slot: passed.slot },
+    if let Some(slot) = Slot::new(slot) {
+        slots[slot.index()] = Some(demand);
     }
 }
 
 // The least bounds of the tasks, or why there are none.
-pub(crate) fn admit(cores: u8, order: Precedence, slots: Slots) -> Verdict
+#[tactic(auto, using(crate::proofs::Judging::answered, crate::proofs::Judging::refused))]
+pub(crate) fn admit(cores: u8, order: Precedence, slots: Slots) -> Result<[u32; 16], NotAdmitted>
     ensures { Judged cores order slots result }
 {
-    let Some(plan) = Plan::new(cores, slots) else {
-        return Verdict::NoSuchCores;
-    };
+    let plan = Plan::new(cores, slots).ok_or(NotAdmitted::NoSuchCores { cores })?;
     match order {
-        Precedence::Fixed => told(least_bounds(&Fixed, &plan)),
-        Precedence::Open => told(least_bounds(&Open, &plan)),
+        Precedence::Fixed => Ok(least_bounds(&Fixed, &plan)?),
+        Precedence::Open => Ok(least_bounds(&Open, &plan)?),
     }
 }
 
-// A plan, and what it is told.
-#[derive(Clone, Copy, Drop)]
+// A plan, and the bounds that it is given.
+#[derive(Clone, Copy, Debug, PartialEq, Eq, Drop)]
 pub(crate) struct PlanReport<'a, 'n> {
     pub cores: u8,
     pub order: Precedence,
     pub rows: &'a [Row<'n>],
-    pub verdict: Verdict,
+    pub bounds: Result<[u32; 16], NotAdmitted>,
 }
 
 impl fmt::Display for PlanReport<'_, '_> {
@@ -100,68 +113,32 @@ impl fmt::Display for PlanReport<'_, '_> {
             "slot name           period deadline       L       W      use   bound   slack"
         )?;
         for row in self.rows {
-            write_row(f, row, &self.verdict)?;
+            self.write_row(f, row)?;
         }
-        write_verdict(f, self)
+        self.write_verdict(f)
     }
 }
 
-fn write_row<W: fmt::Write>(
-    f: &mut fmt::Formatter<W>,
-    row: &Row,
-    verdict: &Verdict,
-) -> fmt::Result {
-    let (slot, name) = (row.slot, row.name);
-    write!(
-        f,
-        "{slot:>4} {name:<12} {:>8} {:>8} ",
-        row.period, row.deadline
-    )?;
-    let tenths = row.share().tenths();
-    write!(f, "{:>7} {:>7} ", row.length, row.total)?;
-    write!(f, "{:>5}.{}% ", tenths / 10, tenths % 10)?;
-    match verdict {
-        Verdict::Admitted { bounds } => {
-            let bound = bounds.get(usize::from(slot)).copied().unwrap_or(0);
-            let slack = row.deadline.saturating_sub(bound);
-            writeln!(f, "{bound:>7} {slack:>7}")
-        }
-        _ => writeln!(f, "      -       -"),
-    }
-}
-
-fn write_verdict<W: fmt::Write>(f: &mut fmt::Formatter<W>, report: &PlanReport) -> fmt::Result {
-    match report.verdict {
-        Verdict::Admitted { .. } => {
-            let tasks = report.rows.len();
-            let cores = usize::from(report.cores);
-            write!(f, "admitted: {tasks} task{} ", plural(tasks))?;
-            writeln!(
-                f,
-                "on {cores} core{}, order {}",
-                plural(cores),
-                order_name(report.order)
-            )
-        }
-        Verdict::NoBounds { slot } => {
-            writeln!(
-                f,
-                "refused 10: no bounds keep every deadline; slot {slot} passes its own"
-            )
-        }
-        Verdict::NoSuchCores => {
-            writeln!(
-                f,
-                "refused 1: the cores must be 1 to 16, not {}",
-                report.cores
-            )
+impl PlanReport<'_, '_> {
+    fn write_row<W: fmt::Write>(&self, f: &mut fmt::Formatter<W>, row: &Row) -> fmt::Result {
+        match &self.bounds {
+            Ok(bounds) => {
+                let bound = row.bound(bounds);
+                let slack = row.demand.deadline.saturating_sub(bound);
+                writeln!(f, "{row} {bound:>7} {slack:>7}")
+            }
+            Err(_) => writeln!(f, "{row}       -       -"),
         }
     }
-}
 
-fn order_name(order: Precedence) -> &'static str {
-    match order {
-        Precedence::Fixed => "fixed",
-        Precedence::Open => "open",
+    fn write_verdict<W: fmt::Write>(&self, f: &mut fmt::Formatter<W>) -> fmt::Result {
+        match self.bounds {
+            Ok(_) => {
+                let tasks = Count(self.rows.len(), "task");
+                let cores = Count(usize::from(self.cores), "core");
+                writeln!(f, "admitted: {tasks} on {cores}, order {}", self.order)
+            }
+            Err(refusal) => writeln!(f, "{refusal}"),
+        }
     }
 }

@@ -1,14 +1,14 @@
 // What a table holds, or why it is refused, as lines of text.
 use crate::figures::{LongestPath, Share, WorstBranches};
 use crate::sentences::Sentence;
-use crate::wording::plural;
+use crate::wording::{Count, write_list};
 use std::fmt;
 use table::records::{Arc, Node, Region, Role};
 use task::{Refusal, Task};
 use workload::measures::{length_and_total, worst_settling};
 
 // What a file of this name and these bytes says of a task.
-#[derive(Clone, Copy, Drop)]
+#[derive(Clone, Copy, Debug, PartialEq, Eq, Drop)]
 pub struct Report<'n, 'b> {
     pub name: &'n str,
     pub bytes: &'b [u8],
@@ -26,8 +26,11 @@ impl fmt::Display for Report<'_, '_> {
             }
             Err(refusal) => {
                 let number = refusal.number();
+                let place = match refusal {
+                    Refusal::Unsound(_) => "at offset",
+                    Refusal::Misshapen(_) => "by rule",
+                };
                 let added = refusal.added();
-                let place = Place(refusal);
                 let sentence = Sentence {
                     refusal,
                     bytes: self.bytes,
@@ -38,38 +41,20 @@ impl fmt::Display for Report<'_, '_> {
     }
 }
 
-// What a refusal adds to its number.
-#[derive(Drop)]
-struct Place(Refusal);
-
-impl fmt::Display for Place {
-    fn fmt<W: fmt::Write>(&self, f: &mut fmt::Formatter<W>) -> fmt::Result {
-        match self.0 {
-            Refusal::Unsound(_) => f.write_str("at offset"),
-            Refusal::Misshapen(_) => f.write_str("by rule"),
-        }
-    }
-}
-
-#[derive(Drop)]
+#[derive(Clone, Copy, Drop)]
 struct Summary<'a>(&'a Task);
 
 impl fmt::Display for Summary<'_> {
     fn fmt<W: fmt::Write>(&self, f: &mut fmt::Formatter<W>) -> fmt::Result {
         let timing = self.0.timing();
-        let nodes = self.0.nodes().len();
-        let arcs = self.0.arcs().len();
         write!(
             f,
             "period {}, deadline {}, ",
             timing.period, timing.deadline
         )?;
-        write!(
-            f,
-            "{nodes} node{}, {arcs} arc{}, ",
-            plural(nodes),
-            plural(arcs)
-        )?;
+        let nodes = Count(self.0.nodes().len(), "node");
+        let arcs = Count(self.0.arcs().len(), "arc");
+        write!(f, "{nodes}, {arcs}, ")?;
         let (length, total) = length_and_total(self.0);
         write!(f, "L {length}, W {total}")
     }
@@ -99,7 +84,7 @@ fn write_nodes<W: fmt::Write>(f: &mut fmt::Formatter<W>, nodes: &[Node]) -> fmt:
 }
 
 // It fills thirteen columns where it is written with that width.
-#[derive(Drop)]
+#[derive(Clone, Copy, Debug, PartialEq, Eq, Drop)]
 struct Part(Role);
 
 impl fmt::Display for Part {
@@ -113,7 +98,7 @@ impl fmt::Display for Part {
 }
 
 // It fills fourteen columns where it is written with that width.
-#[derive(Drop)]
+#[derive(Clone, Copy, Debug, PartialEq, Eq, Drop)]
 struct Lies(Region);
 
 impl fmt::Display for Lies {
@@ -131,57 +116,39 @@ fn write_arcs<W: fmt::Write>(
     nodes: &[Node],
     arcs: &[Arc],
 ) -> fmt::Result {
-    let mut first = true;
+    let mut label = "arcs";
     for from in 0..nodes.len() {
-        if leaves(arcs, from) {
-            writeln!(
-                f,
-                "  {:<4} {from:>2} -> {}",
-                label(first),
-                Targets { arcs, from }
-            )?;
-            first = false;
+        let targets = Targets { arcs, from };
+        if !targets.is_empty() {
+            writeln!(f, "  {label:<4} {from:>2} -> {targets}")?;
+            label = "";
         }
     }
     Ok(())
 }
 
-// What the lines of the arcs begin with.
-fn label(first: bool) -> &'static str {
-    if first { "arcs" } else { "" }
-}
-
-// What stands before a target.
-fn separator(first: bool) -> &'static str {
-    if first { "" } else { ", " }
-}
-
-// Whether some arc leaves the node.
-fn leaves(arcs: &[Arc], from: usize) -> bool {
-    for arc in arcs {
-        if usize::from(arc.from) == from {
-            return true;
-        }
-    }
-    false
-}
-
 // The nodes that the arcs of one node lead to.
-#[derive(Drop)]
+#[derive(Clone, Copy, Debug, PartialEq, Eq, Drop)]
 struct Targets<'a> {
     arcs: &'a [Arc],
     from: usize,
 }
 
+impl Targets<'_> {
+    fn is_empty(&self) -> bool {
+        !self
+            .arcs
+            .iter()
+            .any(|arc| usize::from(arc.from) == self.from)
+    }
+}
+
 impl fmt::Display for Targets<'_> {
     fn fmt<W: fmt::Write>(&self, f: &mut fmt::Formatter<W>) -> fmt::Result {
-        let mut first = true;
-        for arc in self.arcs {
-            if usize::from(arc.from) == self.from {
-                write!(f, "{}{}", separator(first), arc.to)?;
-                first = false;
-            }
-        }
-        Ok(())
+        let leaving = self
+            .arcs
+            .iter()
+            .filter(|arc| usize::from(arc.from) == self.from);
+        write_list(f, leaving.map(|arc| arc.to), ", ")
     }
 }

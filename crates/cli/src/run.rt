@@ -35,9 +35,7 @@ pub fn run(rt: &HostRuntime) -> io::Result<bool> {
 fn check(rt: &HostRuntime, files: &[String]) -> io::Result<bool> {
     let mut well = true;
     for file in files {
-        if !check_file(rt, file.as_str())? {
-            well = false;
-        }
+        well &= check_file(rt, file.as_str())?;
     }
     Ok(well)
 }
@@ -86,11 +84,12 @@ fn report_plan(rt: &HostRuntime, file: &str, plan: &PlanText) -> io::Result<bool
     let mut slots = [None; 16];
     let mut well = true;
     for entry in plan.entries.as_slice() {
+        let Entry { name, slot, .. } = *entry;
         match read_entry(rt, file, entry)? {
             Some(task) => {
                 let demand = demand_of(&task);
-                rows.push(Row::new(entry.name, entry.slot, demand))?;
-                seat(&mut slots, entry.slot, demand);
+                seat(&mut slots, slot, demand);
+                rows.push(Row { name, slot, demand })?;
             }
             None => well = false,
         }
@@ -101,7 +100,7 @@ fn report_plan(rt: &HostRuntime, file: &str, plan: &PlanText) -> io::Result<bool
             cores: plan.cores,
             order: plan.order,
             rows,
-            verdict: admit(plan.cores, plan.order, slots),
+            bounds: admit(plan.cores, plan.order, slots),
         })?;
     }
     Ok(well)
@@ -128,11 +127,9 @@ fn read_entry(rt: &HostRuntime, file: &str, entry: &Entry) -> io::Result<Option<
 
 // The task in a table; a refusal is told under the task's name.
 fn take(rt: &HostRuntime, name: &str, bytes: &[u8]) -> io::Result<Option<Task>> {
-    match Task::read(bytes) {
-        Ok(task) => Ok(Some(task)),
-        Err(_) => {
-            rt.print(Report { name, bytes })?;
-            Ok(None)
-        }
+    let task = Task::read(bytes).ok();
+    if task.is_none() {
+        rt.print(Report { name, bytes })?;
     }
+    Ok(task)
 }

@@ -1,10 +1,10 @@
 // Why a table is refused, as a sentence.
 use crate::wording::{
-    most_of, name_of_field, name_of_first, name_of_record, plural, range_of, turn_of,
+    Count, most_of, name_of_field, name_of_first, name_of_record, range_of, turn_of,
 };
 use std::fmt;
 use table::fault::{Fault, LayoutFault, Misfit};
-use table::records::{Arc, Node, Region, Role, Table};
+use table::records::{Node, Region, Role, Table};
 use task::Refusal;
 use task::rules::{Broken, Rule};
 
@@ -21,7 +21,10 @@ impl fmt::Display for Sentence<'_> {
             Refusal::Unsound(Fault::Layout { fault, .. }) => write!(f, "{}", OfLayout(fault)),
             Refusal::Unsound(Fault::Range { misfit, .. }) => write!(f, "{}", OfRange(misfit)),
             Refusal::Misshapen(broken) => match table::read(self.bytes) {
-                Ok(table) => write_broken(f, &table, broken),
+                Ok(table) => {
+                    let table = &table;
+                    write!(f, "{}", OfShape { table, broken })
+                }
                 Err(_) => Ok(()),
             },
         }
@@ -29,81 +32,54 @@ impl fmt::Display for Sentence<'_> {
 }
 
 // What the rule wants, and the node or arc of the table that is first to break it.
-fn write_broken<W: fmt::Write>(
-    f: &mut fmt::Formatter<W>,
-    table: &Table,
+#[derive(Clone, Copy, Drop)]
+struct OfShape<'a> {
+    table: &'a Table,
     broken: Broken,
-) -> fmt::Result {
-    let at = broken.at;
-    match broken.rule {
-        Rule::HomesAreOpenings => write!(
-            f,
-            "the home of node {at} must be an opening{}",
-            Home(table.nodes.as_slice().get(at).copied())
-        ),
-        Rule::MatesPairUp => write!(
-            f,
-            "{}",
-            Mates {
-                at,
-                node: table.nodes.as_slice().get(at).copied()
-            }
-        ),
-        Rule::BranchesCountUp => write!(
-            f,
-            "the branches of opening {at} must be numbered from 0, and none skipped"
-        ),
-        Rule::ArcsAreLawful => write!(
-            f,
-            "arc {at}{} must join two units of one region, lead from an opening into its branch, or lead out of a branch to its closing, and be given once",
-            Ends(table.arcs.as_slice().get(at).copied())
-        ),
-        Rule::OneFirstOneLast => write!(
-            f,
-            "the region of node {at} must have just one first unit and just one last"
-        ),
-        Rule::BlocksAreWired => write!(
-            f,
-            "an opening must lead to the first unit of each of its branches, the last unit of each must lead to the closing, and no other may; node {at} breaks this"
-        ),
-    }
 }
 
-// The home of a node that should be an opening.
-#[derive(Clone, Copy, Drop)]
-struct Home(Option<Node>);
-
-impl fmt::Display for Home {
+impl fmt::Display for OfShape<'_> {
     fn fmt<W: fmt::Write>(&self, f: &mut fmt::Formatter<W>) -> fmt::Result {
-        match self.0 {
-            Some(
-                Node {
-                    region: Region::Branch { home, .. },
-                    ..
-                },
-            ) => write!(f, ", and node {home} is none"),
-            _ => Ok(()),
+        let at = self.broken.at;
+        match self.broken.rule {
+            Rule::HomesAreOpenings => self.write_home(f),
+            Rule::MatesPairUp => self.write_mates(f),
+            Rule::BranchesCountUp => write!(
+                f,
+                "the branches of opening {at} must be numbered from 0, and none skipped"
+            ),
+            Rule::ArcsAreLawful => self.write_arc(f),
+            Rule::OneFirstOneLast => write!(
+                f,
+                "the region of node {at} must have just one first unit and just one last"
+            ),
+            Rule::BlocksAreWired => write!(
+                f,
+                "an opening must lead to the first unit of each of its branches, the last unit of each must lead to the closing, and no other may; node {at} breaks this"
+            ),
         }
     }
 }
 
-// What a closing or an opening lacks.
-#[derive(Clone, Copy, Drop)]
-struct Mates {
-    at: usize,
-    node: Option<Node>,
-}
+impl OfShape<'_> {
+    fn node(&self) -> Option<&Node> {
+        self.table.nodes.as_slice().get(self.broken.at)
+    }
 
-impl fmt::Display for Mates {
-    fn fmt<W: fmt::Write>(&self, f: &mut fmt::Formatter<W>) -> fmt::Result {
-        let at = self.at;
-        match self.node {
-            Some(
-                Node {
-                    role: Role::Closing { mate },
-                    ..
-                },
-            ) => write!(
+    fn write_home<W: fmt::Write>(&self, f: &mut fmt::Formatter<W>) -> fmt::Result {
+        let at = self.broken.at;
+        write!(f, "the home of node {at} must be an opening")?;
+        match self.node().map(|node| node.region) {
+            Some(Region::Branch { home, .. }) => write!(f, ", and node {home} is none"),
+            _ => Ok(()),
+        }
+    }
+
+    // What a closing or an opening lacks.
+    fn write_mates<W: fmt::Write>(&self, f: &mut fmt::Formatter<W>) -> fmt::Result {
+        let at = self.broken.at;
+        match self.node().map(|node| node.role) {
+            Some(Role::Closing { mate }) => write!(
                 f,
                 "the mate of closing {at} must be an opening, and node {mate} is none"
             ),
@@ -113,22 +89,20 @@ impl fmt::Display for Mates {
             ),
         }
     }
-}
 
-// The ends of an arc.
-#[derive(Clone, Copy, Drop)]
-struct Ends(Option<Arc>);
-
-impl fmt::Display for Ends {
-    fn fmt<W: fmt::Write>(&self, f: &mut fmt::Formatter<W>) -> fmt::Result {
-        match self.0 {
-            Some(arc) => write!(f, " from {} to {}", arc.from, arc.to),
-            None => Ok(()),
+    fn write_arc<W: fmt::Write>(&self, f: &mut fmt::Formatter<W>) -> fmt::Result {
+        let at = self.broken.at;
+        write!(f, "arc {at}")?;
+        if let Some(arc) = self.table.arcs.as_slice().get(at) {
+            write!(f, " from {} to {}", arc.from, arc.to)?;
         }
+        f.write_str(
+            " must join two units of one region, lead from an opening into its branch, or lead out of a branch to its closing, and be given once",
+        )
     }
 }
 
-#[derive(Clone, Copy, Drop)]
+#[derive(Clone, Copy, Debug, PartialEq, Eq, Drop)]
 struct OfLayout(LayoutFault);
 
 impl fmt::Display for OfLayout {
@@ -142,11 +116,8 @@ impl fmt::Display for OfLayout {
                 )
             }
             LayoutFault::HeaderCutOff { left } => {
-                write!(
-                    f,
-                    "the table ends {left} byte{} into a record header of 4 bytes",
-                    plural(left)
-                )
+                let left = Count(left, "byte");
+                write!(f, "the table ends {left} into a record header of 4 bytes")
             }
             LayoutFault::UnknownKind { number } => {
                 write!(f, "kind {number} is none of 1 (task), 2 (node) and 3 (arc)")
@@ -162,19 +133,16 @@ impl fmt::Display for OfLayout {
             LayoutFault::OutOfTurn { kind } => f.write_str(turn_of(kind)),
             LayoutFault::TooMany { kind } => write!(f, "a table has at most {}", most_of(kind)),
             LayoutFault::RecordCutOff { kind, left } => {
-                let ending = plural(left);
+                let left = Count(left, "byte");
                 let record = name_of_record(kind);
                 let size = kind.bytes();
-                write!(
-                    f,
-                    "the table ends {left} byte{ending} into {record} of {size} bytes"
-                )
+                write!(f, "the table ends {left} into {record} of {size} bytes")
             }
         }
     }
 }
 
-#[derive(Clone, Copy, Drop)]
+#[derive(Clone, Copy, Debug, PartialEq, Eq, Drop)]
 struct OfRange(Misfit);
 
 impl fmt::Display for OfRange {

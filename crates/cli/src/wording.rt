@@ -1,10 +1,41 @@
 // The words by which a person is told of kinds, fields and counts.
+ghost use Rattle.std.specs.Iterator.{IsFinite};
+
+use std::fmt;
 use table::fault::Field;
 use table::records::Kind;
 
-// What follows a noun that `n` things go by.
-pub(crate) fn plural(n: usize) -> &'static str {
-    if n == 1 { "" } else { "s" }
+// How many there are of what the noun names.
+#[derive(Clone, Copy, Debug, PartialEq, Eq, Drop)]
+pub(crate) struct Count(pub usize, pub &'static str);
+
+impl fmt::Display for Count {
+    fn fmt<W: fmt::Write>(&self, f: &mut fmt::Formatter<W>) -> fmt::Result {
+        let Count(n, noun) = *self;
+        let ending = if n == 1 { "" } else { "s" };
+        write!(f, "{n} {noun}{ending}")
+    }
+}
+
+// Writes the items in a row, with the separator between each two.
+pub(crate) fn write_list<W: fmt::Write, I: Iterator + Drop>(
+    f: &mut fmt::Formatter<W>,
+    mut items: I,
+    separator: &str,
+) -> fmt::Result
+where
+    I::Item: fmt::Display + Drop,
+    requires can { I.can_next items }
+    requires ends { IsFinite (I.remaining items) }
+{
+    let Some(first) = items.next() else {
+        return Ok(());
+    };
+    write!(f, "{first}")?;
+    for item in items {
+        write!(f, "{separator}{item}")?;
+    }
+    Ok(())
 }
 
 // Any record of the kind.
