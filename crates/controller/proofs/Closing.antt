@@ -54,7 +54,7 @@ since_more (Some w) t past h =
     all_weaker (λ d. d.released + w ≤ t) (λ d. d.released + min (w + 1) 1000000 ≤ suc t) (λ d l. omega arith) past h
 
 module _ (o : Meaning) (laws : LawfulOrder o) (t u : Tables) (b : ℕ → Line) (sound : Sound o t b) (outcomes : List ℕ) (mask : ℕ)
-    (cl : TickClosed t outcomes mask u) (as_many : length outcomes ≡ cores t) (right : AllRight t.tasks t.jobs cl.spots outcomes) where
+    (cl : TickClosed t outcomes mask u) (as_many : length outcomes ≡ cores t) (right : AllRight t.board.tasks t.board.jobs cl.spots outcomes) where
   abbrev spots : List (Option Spot)
   spots = cl.spots
 
@@ -96,28 +96,28 @@ module _ (o : Meaning) (laws : LawfulOrder o) (t u : Tables) (b : ℕ → Line) 
     pub ended : AllByRecursion EndedInTime (b' s).ended
 
   -- ---- not admitted: no job is open, and none ends
-  resting : ((s : ℕ) → s < 16 → Resting t.jobs b s) → (s : ℕ) → s < 16 → Resting u.jobs b' s
+  resting : ((s : ℕ) → s < 16 → Resting t.board.jobs b s) → (s : ℕ) → s < 16 → Resting u.board.jobs b' s
   resting rest s l =
       let m = no_job_left s (rest s l).no_job (closed_at s l) in
       record { no_job = m.same; no_entry = ap (λ (x : Line). x.unended) (line_open s m.not_told) ∙ ap (map one_seen) (rest s l).no_entry }
 
-  rest_ended : ((s : ℕ) → s < 16 → Resting t.jobs b s) → (s : ℕ) → s < 16 → AllByRecursion EndedInTime (b' s).ended
+  rest_ended : ((s : ℕ) → s < 16 → Resting t.board.jobs b s) → (s : ℕ) → s < 16 → AllByRecursion EndedInTime (b' s).ended
   rest_ended rest s l =
       let m = no_job_left s (rest s l).no_job (closed_at s l) in
       subst (λ (x : Line). AllByRecursion EndedInTime x.ended) (sym (line_open s m.not_told)) (sound.ended s l)
 
   -- ---- admitted: the run goes on by the tick
-  module _ (R : List ℕ) (running : Running o (parts t) b R) (n : ℕ) (placed : PlacedBy o t.tasks t.jobs (cores t) spots n) where
+  module _ (R : List ℕ) (running : Running o (parts t) b R) (n : ℕ) (placed : PlacedBy o t.board.tasks t.board.jobs (cores t) spots n) where
     abbrev y : System
-    y = system o t.plan t.tasks R
+    y = system o t.plan t.board.tasks R
 
-    abbrev σ : State (system o t.plan t.tasks R)
+    abbrev σ : State (system o t.plan t.board.tasks R)
     σ = running.state
 
     abbrev turns : ℕ → List (Turn Outcome)
     turns s = turns_for s (tick_places o laws t b sound R running spots n placed outcomes as_many right)
 
-    abbrev next : State (system o t.plan t.tasks R)
+    abbrev next : State (system o t.plan t.board.tasks R)
     next = tick y (tick_places o laws t b sound R running spots n placed outcomes as_many right) σ
 
     goes_on : Run y (Rattle.timing.specs.Run.start y) next
@@ -125,7 +125,7 @@ module _ (o : Meaning) (laws : LawfulOrder o) (t u : Tables) (b : ℕ → Line) 
         (may_tick_lem o laws t b sound R running spots n placed outcomes as_many right)
 
     in_bound : (s : ℕ) (d : Demand) → s < 16 → held t.plan s ≡ Some d → TimelySlot (bound R s) (suc σ.now) (next.slot s)
-    in_bound s d l e = run_timely t.tasks t.plan sound.exact o R laws running.solves next goes_on s (l, is_there t.plan s d e)
+    in_bound s d l e = run_timely t.board.tasks t.plan sound.exact o R laws running.solves next goes_on s (l, is_there t.plan s d e)
 
     -- the job's states are the run's after the tick
     states_are : (s : ℕ) (j : Job) (k : JobState) → j.states ≡ k.states → states_after spots outcomes s j ≡ (advance k (turns s)).states
@@ -151,7 +151,7 @@ module _ (o : Meaning) (laws : LawfulOrder o) (t u : Tables) (b : ℕ → Line) 
         -- the bound is in the deadline, and this within a longest period
         told_due : (bound R s ≤ (b s).deadline) × ((b s).deadline ≤ 1000000)
         told_due =
-            let a = asking_at t.tasks t.plan sound.exact s m.demand l m.asks in
+            let a = asking_at t.board.tasks t.plan sound.exact s m.demand l m.asks in
             let range = (lawful_task a.task.table a.task.lawful).in_range.task_in_range in
             let due = sound.due s a.task l a.there_is in (
               omega (arith, running.solves.kept s m.demand l m.asks, a.asks.deadline),
@@ -213,7 +213,7 @@ module _ (o : Meaning) (laws : LawfulOrder o) (t u : Tables) (b : ℕ → Line) 
             older = (omega (arith, st.moved.age, young), omega (arith, young))
 
         -- the slot after the tick, whether the run's test says that the job ended or not
-        settled_slot : (c : Bool) → (t_job_ended (nodes_of (tables_of t.tasks s)) (arcs_of (tables_of t.tasks s)) (advance k (turns s)).states).answer ≡ c
+        settled_slot : (c : Bool) → (t_job_ended (nodes_of (tables_of t.board.tasks s)) (arcs_of (tables_of t.board.tasks s)) (advance k (turns s)).states).answer ≡ c
             → TimelySlot (bound R s) (suc σ.now) (settle c (suc σ.now) r (replicate (length (turns s)) σ.now ++ spent) (advance k (turns s)) past)
             → Ends τ m.the_job spots outcomes s mask (job_in u s) ⊎ Stays τ m.the_job spots outcomes s mask (job_in u s)
             → LineAfter R s (suc σ.now) (settle c (suc σ.now) r (replicate (length (turns s)) σ.now ++ spent) (advance k (turns s)) past)
@@ -223,10 +223,10 @@ module _ (o : Meaning) (laws : LawfulOrder o) (t u : Tables) (b : ℕ → Line) 
         settled_slot true e on (inr st) =
             absurd (st.not_ended (subst (JobEnded (task_nodes τ) (task_arcs τ)) (sym (states_are s m.the_job k m.states))
             (subst (λ (x : Option Task). JobEnded (nodes_of (table_or x)) (arcs_of (table_or x)) (advance k (turns s)).states) task-is
-            (ended_true (nodes_of (tables_of t.tasks s)) (arcs_of (tables_of t.tasks s)) (advance k (turns s)).states e))))
+            (ended_true (nodes_of (tables_of t.board.tasks s)) (arcs_of (tables_of t.board.tasks s)) (advance k (turns s)).states e))))
         settled_slot false e on (inl en) =
             let z : ◌≡◌ {A = Bool} false true = sym e
-            ∙ true_ended (nodes_of (tables_of t.tasks s)) (arcs_of (tables_of t.tasks s)) (advance k (turns s)).states
+            ∙ true_ended (nodes_of (tables_of t.board.tasks s)) (arcs_of (tables_of t.board.tasks s)) (advance k (turns s)).states
             (subst (λ (x : Option Task). JobEnded (nodes_of (table_or x)) (arcs_of (table_or x)) (advance k (turns s)).states) (sym task-is)
             (subst (JobEnded (task_nodes τ) (task_arcs τ)) (states_are s m.the_job k m.states) en.ended)) in
             absurd (let w : ◌≡◌ {A = ℕ} 0 1 = cc in omega arith)
@@ -239,9 +239,9 @@ module _ (o : Meaning) (laws : LawfulOrder o) (t u : Tables) (b : ℕ → Line) 
               → LineAfter R s (suc σ.now) (work (y.jobs s) σ.now (turns s) x)
           go (idle past) e m = idle_slot past m.0 m.1 m.2
           go (busy r spent k past) e m =
-              let a = asking_at t.tasks t.plan sound.exact s m.0.demand l m.0.asks in
+              let a = asking_at t.board.tasks t.plan sound.exact s m.0.demand l m.0.asks in
               settled_slot r spent k past m.0 m.1 a.task a.there_is
-              (t_job_ended (nodes_of (tables_of t.tasks s)) (arcs_of (tables_of t.tasks s)) (advance k (turns s)).states).answer refl
+              (t_job_ended (nodes_of (tables_of t.board.tasks s)) (arcs_of (tables_of t.board.tasks s)) (advance k (turns s)).states).answer refl
               (subst (λ (x : Slot JobState). TimelySlot (bound R s) (suc σ.now) (work (y.jobs s) σ.now (turns s) x)) e (in_bound s m.0.demand l m.0.asks))
               (two a.task a.there_is m.0.the_job m.0.there (closed_at s l))
             where
@@ -252,7 +252,7 @@ module _ (o : Meaning) (laws : LawfulOrder o) (t u : Tables) (b : ℕ → Line) 
                   (subst (λ (x : Option Task). ClosedSlot x (job_in t s) spots outcomes s mask (job_in u s)) f h)
 
     abbrev closed_parts : Parts
-    closed_parts = record { plan = t.plan; tasks = t.tasks; jobs = u.jobs; waited = map one_more t.waited; bounds = Some R }
+    closed_parts = record { plan = t.plan; tasks = t.board.tasks; jobs = u.board.jobs; waited = map one_more t.waited; bounds = Some R }
 
     pub continues : Epoch o closed_parts b'
     continues =
@@ -267,9 +267,9 @@ module _ (o : Meaning) (laws : LawfulOrder o) (t u : Tables) (b : ℕ → Line) 
   -- ---- either way
 
   abbrev EndedBy : Option (List ℕ) → Type 0
-  EndedBy bs = ((s : ℕ) → s < 16 → AllByRecursion EndedInTime (b' s).ended) × EpochBy o (record { plan = t.plan; tasks = t.tasks; jobs = u.jobs; waited = map one_more t.waited; bounds = bs }) b' bs
+  EndedBy bs = ((s : ℕ) → s < 16 → AllByRecursion EndedInTime (b' s).ended) × EpochBy o (record { plan = t.plan; tasks = t.board.tasks; jobs = u.board.jobs; waited = map one_more t.waited; bounds = bs }) b' bs
 
-  closed_by : (bs : Option (List ℕ)) → EpochBy o (parts t) b bs → (n : ℕ) → PlacedBy o t.tasks t.jobs (cores t) spots n → EndedBy bs
+  closed_by : (bs : Option (List ℕ)) → EpochBy o (parts t) b bs → (n : ℕ) → PlacedBy o t.board.tasks t.board.jobs (cores t) spots n → EndedBy bs
   closed_by None rest n placed = (rest_ended rest, resting rest)
   closed_by (Some R) running n placed = (λ s l. (closed_slot R running n placed s l).ended, continues R running n placed)
 
@@ -283,7 +283,7 @@ module _ (o : Meaning) (laws : LawfulOrder o) (t u : Tables) (b : ℕ → Line) 
         due = λ s τ l e. same_deadline s (bit_is_set mask s) ∙ kept_due o t u b sound cl.same s τ l e;
         ended = c.0;
         epoch = subst (λ (x : Parts). Epoch o x b')
-            (sym (parts_are u (record { plan = t.plan; tasks = t.tasks; jobs = u.jobs; waited = map one_more t.waited; bounds = t.bounds })
+            (sym (parts_are u (record { plan = t.plan; tasks = t.board.tasks; jobs = u.board.jobs; waited = map one_more t.waited; bounds = t.bounds })
             cl.same.same_plan cl.same.same_held refl cl.waited cl.same_bounds)) c.1;
         ticked = λ sp e. absurd (some_not_none e cl.no_tick);
       }

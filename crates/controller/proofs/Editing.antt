@@ -61,23 +61,23 @@ module _ {X : Type 0} (xs ys : List X) (s : ℕ) (x d : X) (e : ys ≡ set xs s 
   at_other k n = ap (λ (l : List X). get_or l k d) e ∙ get_or-set_other xs s k x d n
 
 module _ (o : Meaning) (t u : Tables) (b b' : ℕ → Line) (s : ℕ) (task : Option Task) (demand : Option Demand)
-    (sound : Sound o t b) (none : NoneOpen t.jobs) (no_tick : t.tick ≡ None) (l : s < 16) (edited : Edited t s task demand u) where
+    (sound : Sound o t b) (none : NoneOpen t.board.jobs) (no_tick : t.tick ≡ None) (l : s < 16) (edited : Edited t s task demand u) where
   edited_exact : SlotDemands (table_of task) demand → Exact u
   edited_exact new k m = elim (cases_eq k s) [
     | inl e ↦ subst (λ (x : ℕ). SlotDemands (table_of (task_in u x)) (held u.plan x)) (sym e) (
-        subst (λ (x : Option Task). SlotDemands (table_of x) (held u.plan s)) (sym (at_new t.tasks u.tasks s task None edited.tasks (omega (arith, t.sized.0))))
+        subst (λ (x : Option Task). SlotDemands (table_of x) (held u.plan s)) (sym (at_new t.board.tasks u.board.tasks s task None edited.tasks (omega (arith, t.sized.0))))
         (subst (SlotDemands (table_of task)) (sym (at_new t.plan.slots u.plan.slots s demand None edited.demands (omega (arith, t.plan.slotted)))) new)
         )
-    | inr n ↦ subst (λ (x : Option Task). SlotDemands (table_of x) (held u.plan k)) (sym (at_other t.tasks u.tasks s task None edited.tasks k n))
+    | inr n ↦ subst (λ (x : Option Task). SlotDemands (table_of x) (held u.plan k)) (sym (at_other t.board.tasks u.board.tasks s task None edited.tasks k n))
         (subst (SlotDemands (table_of (task_in t k))) (sym (at_other t.plan.slots u.plan.slots s demand None edited.demands k n)) (sound.exact k m))
   ]
 
   edited_told : HoldsTold (b' s).task (table_of task) → ((k : ℕ) → k ≢ s → (b' k).task ≡ (b k).task) → AsTold u b'
   edited_told new other k m = elim (cases_eq k s) [
     | inl e ↦ subst (λ (x : ℕ). HoldsTold (b' x).task (table_of (task_in u x))) (sym e)
-        (subst (λ (x : Option Task). HoldsTold (b' s).task (table_of x)) (sym (at_new t.tasks u.tasks s task None edited.tasks (omega (arith, t.sized.0)))) new)
+        (subst (λ (x : Option Task). HoldsTold (b' s).task (table_of x)) (sym (at_new t.board.tasks u.board.tasks s task None edited.tasks (omega (arith, t.sized.0)))) new)
     | inr n ↦ subst (λ (x : ToldTask). HoldsTold x (table_of (task_in u k))) (sym (other k n))
-        (subst (λ (x : Option Task). HoldsTold (b k).task (table_of x)) (sym (at_other t.tasks u.tasks s task None edited.tasks k n)) (sound.as_told k m))
+        (subst (λ (x : Option Task). HoldsTold (b k).task (table_of x)) (sym (at_other t.board.tasks u.board.tasks s task None edited.tasks k n)) (sound.as_told k m))
   ]
 
   pub edited_sound : SlotDemands (table_of task) demand → HoldsTold (b' s).task (table_of task) → ((k : ℕ) → k ≢ s → (b' k).task ≡ (b k).task)
@@ -89,9 +89,9 @@ module _ (o : Meaning) (t u : Tables) (b b' : ℕ → Line) (s : ℕ) (task : Op
         as_told = edited_told told-new told-other;
         due = λ k τ m e. elim (cases_eq k s) [
           | inl h ↦ subst (λ (x : ℕ). (b' x).deadline ≡ deadline τ) (sym h) (
-              due-new τ (sym (at_new t.tasks u.tasks s task None edited.tasks (omega (arith, t.sized.0))) ∙ subst (λ (x : ℕ). task_in u x ≡ Some τ) h e)
+              due-new τ (sym (at_new t.board.tasks u.board.tasks s task None edited.tasks (omega (arith, t.sized.0))) ∙ subst (λ (x : ℕ). task_in u x ≡ Some τ) h e)
               )
-          | inr n ↦ due-other k n ∙ sound.due k τ m (sym (at_other t.tasks u.tasks s task None edited.tasks k n) ∙ e)
+          | inr n ↦ due-other k n ∙ sound.due k τ m (sym (at_other t.board.tasks u.board.tasks s task None edited.tasks k n) ∙ e)
         ];
         ended = λ k m. subst (AllByRecursion EndedInTime) (sym (same_ended k)) (sound.ended k m);
         epoch = subst (EpochBy o (parts u) b') (sym edited.no_bounds) (λ k m. record {
@@ -101,7 +101,7 @@ module _ (o : Meaning) (t u : Tables) (b b' : ℕ → Line) (s : ℕ) (task : Op
         ticked = λ spots e. absurd (some_not_none e (edited.same_tick ∙ no_tick));
       }
 
-module _ (o : Meaning) (t u : Tables) (b : ℕ → Line) (sound : Sound o t b) (none : NoneOpen t.jobs) (no_tick : t.tick ≡ None) (s : ℕ) (l : s < 16) where
+module _ (o : Meaning) (t u : Tables) (b : ℕ → Line) (sound : Sound o t b) (none : NoneOpen t.board.jobs) (no_tick : t.tick ≡ None) (s : ℕ) (l : s < 16) where
   -- what an edit writes into the book: the task and its deadline, of this slot only
   module _ (line : Line → Line) (opens : (l : Line) → (line l).unended ≡ l.unended) (ends : (l : Line) → (line l).ended ≡ l.ended) where
     abbrev b' : ℕ → Line
@@ -142,7 +142,7 @@ module _ (o : Meaning) (t u : Tables) (b : ℕ → Line) (sound : Sound o t b) (
       (λ τ e. sound.due s re.before l re.held ∙ ap (λ (y : Table). y.timing.deadline) (sym re.one_time) ∙ ap deadline (one_some refl e))
 
 -- a put speaks of the slot by its number, and not of what has been waited
-pub put_elsewhere : (t t' u : Tables) (s s' : ℕ) (task : Task) (a : ℕ × ℕ) → s ≡ s' → t'.tasks ≡ t.tasks → t'.plan ≡ t.plan → t'.jobs ≡ t.jobs → t'.tick ≡ t.tick
+pub put_elsewhere : (t t' u : Tables) (s s' : ℕ) (task : Task) (a : ℕ × ℕ) → s ≡ s' → t'.board.tasks ≡ t.board.tasks → t'.plan ≡ t.plan → t'.board.jobs ≡ t.board.jobs → t'.tick ≡ t.tick
     → Put t' s task a u → Put t s' task a u
 put_elsewhere t t' u s s' task a e f g h k p =
     subst (λ (x : ℕ). Put t x task a u) e (record {

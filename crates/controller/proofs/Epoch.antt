@@ -63,7 +63,7 @@ pub record Parts : Type 0 where
   pub bounds : Option (List ℕ)
 
 abbrev pub parts : Tables → Parts
-parts t = record { plan = t.plan; tasks = t.tasks; jobs = t.jobs; waited = t.waited; bounds = t.bounds }
+parts t = record { plan = t.plan; tasks = t.board.tasks; jobs = t.board.jobs; waited = t.waited; bounds = t.bounds }
 
 abbrev pub waited_at : List (Option ℕ) → ℕ → Option ℕ
 waited_at waited s = get_or waited s None
@@ -93,7 +93,7 @@ PlacedBy o tasks jobs m spots n = Placed (ReadyIn tasks jobs) (KeptIn jobs) (Goe
 
 -- so they do in an open tick
 abbrev pub Ticked : Meaning → Tables → Type 0
-Ticked o t = (spots : List (Option Spot)) → t.tick ≡ Some spots → (n : ℕ) × PlacedBy o t.tasks t.jobs (cores t) spots n
+Ticked o t = (spots : List (Option Spot)) → t.tick ≡ Some spots → (n : ℕ) × PlacedBy o t.board.tasks t.board.jobs (cores t) spots n
 
 pub record Sound (o : Meaning) (t : Tables) (b : ℕ → Line) : Type 0 where
   pub exact : Exact t

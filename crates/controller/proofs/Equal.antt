@@ -43,13 +43,12 @@ plan_equal a b c s =
       slotted = is_prop→PathP (λ j. length (s j) ≡ 16) (λ j. ℕ_set (length (s j)) 16) a.slotted b.slotted i;
     }
 
-pub tables_equal : (a b : Tables) → a.plan ≡ b.plan → a.tasks ≡ b.tasks → a.jobs ≡ b.jobs → a.waited ≡ b.waited → a.bounds ≡ b.bounds
+pub tables_equal : (a b : Tables) → a.plan ≡ b.plan → a.board.tasks ≡ b.board.tasks → a.board.jobs ≡ b.board.jobs → a.waited ≡ b.waited → a.bounds ≡ b.bounds
     → a.tick ≡ b.tick → a ≡ b
 tables_equal a b p t j w r k =
     λ i. record {
       plan = p i;
-      tasks = t i;
-      jobs = j i;
+      board = record { tasks = t i; jobs = j i };
       waited = w i;
       bounds = r i;
       tick = k i;

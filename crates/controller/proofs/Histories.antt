@@ -25,12 +25,12 @@ nothing_at xs s l e = ap (λ (ys : List _). get_or ys s None) e ∙ get_or-repli
 opened_is_sound : (o : Meaning) (m : ℕ) (t : Tables) → Opened m t → Sound o t (book [])
 opened_is_sound o m t op =
     record {
-      exact = λ s l. subst (λ (x : Option Task). SlotDemands (table_of x) (held t.plan s)) (sym (nothing_at t.tasks s l op.no_tasks))
+      exact = λ s l. subst (λ (x : Option Task). SlotDemands (table_of x) (held t.plan s)) (sym (nothing_at t.board.tasks s l op.no_tasks))
           (subst (SlotDemands None) (sym (nothing_at t.plan.slots s l op.no_demands)) tt);
-      as_told = λ s l. ap table_of (nothing_at t.tasks s l op.no_tasks);
-      due = λ s τ l e. absurd (some_not_none e (nothing_at t.tasks s l op.no_tasks));
+      as_told = λ s l. ap table_of (nothing_at t.board.tasks s l op.no_tasks);
+      due = λ s τ l e. absurd (some_not_none e (nothing_at t.board.tasks s l op.no_tasks));
       ended = λ s l. tt;
-      epoch = subst (EpochBy o (parts t) (book [])) (sym op.not_admitted) (λ s l. record { no_job = nothing_at t.jobs s l op.no_jobs; no_entry = refl });
+      epoch = subst (EpochBy o (parts t) (book [])) (sym op.not_admitted) (λ s l. record { no_job = nothing_at t.board.jobs s l op.no_jobs; no_entry = refl });
       ticked = λ spots e. absurd (some_not_none e op.no_tick);
     }
 

@@ -68,12 +68,12 @@ is_there p s d e = ap there e
 
 module _ (o : Meaning) (laws : LawfulOrder o) (t : Tables) (b : ℕ → Line) (sound : Sound o t b) where
   open_timely : (R : List ℕ) (s time : ℕ) (x : Slot JobState) (job : Option Job) (w : Option ℕ) (entries : List Entry) → s < 16
-      → Solves o.most t.plan R → (Held (system o t.plan t.tasks R).plan s → TimelySlot (bound R s) time x)
+      → Solves o.most t.plan R → (Held (system o t.plan t.board.tasks R).plan s → TimelySlot (bound R s) time x)
       → SameSlot t.plan s (bound R s) (b s).deadline time x job w entries → AllByRecursion OpenInTime entries
   open_timely R s time (idle past) job w entries l solves on m = subst (AllByRecursion OpenInTime) (sym m.1) tt
   open_timely R s time (busy r spent j past) job w entries l solves on m =
       let k = m.0 in
-      let a = asking_at t.tasks t.plan sound.exact s k.demand l k.asks in
+      let a = asking_at t.board.tasks t.plan sound.exact s k.demand l k.asks in
       subst (AllByRecursion OpenInTime) (sym k.entered) (
         record {
           below_bound = omega (arith, (on (l, is_there t.plan s k.demand k.asks)).0, k.age);
@@ -88,6 +88,6 @@ module _ (o : Meaning) (laws : LawfulOrder o) (t : Tables) (b : ℕ → Line) (s
       go : (bs : Option (List ℕ)) → EpochBy o (parts t) b bs → (s : ℕ) → s < 16 → AllByRecursion OpenInTime (b s).unended
       go None rest s l = subst (AllByRecursion OpenInTime) (sym (rest s l).no_entry) tt
       go (Some R) running s l =
-          open_timely R s running.state.now (running.state.slot s) (job_at t.jobs s) (waited_at t.waited s) (b s).unended l running.solves
-          (run_timely t.tasks t.plan sound.exact o R laws running.solves running.state running.run s)
+          open_timely R s running.state.now (running.state.slot s) (job_at t.board.jobs s) (waited_at t.waited s) (b s).unended l running.solves
+          (run_timely t.board.tasks t.plan sound.exact o R laws running.solves running.state running.run s)
           (running.slots s l)

@@ -96,8 +96,8 @@ module _ (o : Meaning) (t : Tables) where
   one_refusal (outcome_for_each_core outcomes) e g f h = f.1 ∙ sym h.1
   one_refusal (outcomes_allowed outcomes) e g f h =
       f.2
-      ∙ ap Outcome (first_place (RightOn t.tasks t.jobs f.1.spots outcomes) (length outcomes) f.0 h.0 f.1.first
-      (subst (λ (x : List (Option Spot)). FailsFirst (RightOn t.tasks t.jobs x outcomes) (length outcomes) h.0) (one_some h.1.ticking f.1.ticking) h.1.first))
+      ∙ ap Outcome (first_place (RightOn t.board.tasks t.board.jobs f.1.spots outcomes) (length outcomes) f.0 h.0 f.1.first
+      (subst (λ (x : List (Option Spot)). FailsFirst (RightOn t.board.tasks t.board.jobs x outcomes) (length outcomes) h.0) (one_some h.1.ticking f.1.ticking) h.1.first))
       ∙ sym h.2
 
   pub not_turned : (ks : List Check) (e : Refusal) → AllPass o t ks → TurnedAway o t ks e → ⊥
@@ -131,7 +131,7 @@ module _ (t u v : Tables) (s : ℕ) where
   edited_same x y d e a b p q w =
       tables_equal u v
       (plan_equal u.plan v.plan (a.same_cores ∙ sym b.same_cores) (a.demands ∙ ap (set t.plan.slots s) q ∙ sym b.demands))
-      (a.tasks ∙ ap (set t.tasks s) p ∙ sym b.tasks) (a.same_jobs ∙ sym b.same_jobs) w (a.no_bounds ∙ sym b.no_bounds) (a.same_tick ∙ sym b.same_tick)
+      (a.tasks ∙ ap (set t.board.tasks s) p ∙ sym b.tasks) (a.same_jobs ∙ sym b.same_jobs) w (a.no_bounds ∙ sym b.no_bounds) (a.same_tick ∙ sym b.same_tick)
 
   added_same : (bytes : List ℕ) (a b : ℕ × ℕ) → Added t s bytes a u → Added t s bytes b v → (a ≡ b) × (u ≡ v)
   added_same bytes a b f g =
@@ -192,7 +192,7 @@ module _ (o : Meaning) (t u v : Tables) (list : List ℕ) where
 
   opened_same : (n m : ℕ) (after other : List ℕ) → TickOpened o t list n after u → TickOpened o t list m other v → (n ≡ m) × (after ≡ other) × (u ≡ v)
   opened_same n m after other f g =
-      let one = one_placing (ReadyIn t.tasks t.jobs) (KeptIn t.jobs) (GoesAhead o t.tasks t.jobs) (cores t) f.spots g.spots n m f.placed g.placed in (
+      let one = one_placing (ReadyIn t.board.tasks t.board.jobs) (KeptIn t.board.jobs) (GoesAhead o t.board.tasks t.board.jobs) (cores t) f.spots g.spots n m f.placed g.placed in (
         one.1,
         written_same g.spots (cores t) after other (subst (λ (x : List (Option Spot)). Written x (cores t) list after) one.0 f.told) g.told,
         tables_equal u v (f.same.same_plan ∙ sym g.same.same_plan) (f.same.same_held ∙ sym g.same.same_held) (f.same_jobs ∙ sym g.same_jobs)
@@ -202,8 +202,8 @@ module _ (o : Meaning) (t u v : Tables) (list : List ℕ) where
 closed_same : (t u v : Tables) (outcomes : List ℕ) (a b : ℕ) → TickClosed t outcomes a u → TickClosed t outcomes b v → (a ≡ b) × (u ≡ v)
 closed_same t u v outcomes a b f g =
     let spots = one_some g.ticking f.ticking in
-    let one = one_closing t.tasks t.jobs f.spots outcomes a b u.jobs v.jobs f.closed
-    (subst (λ (x : List (Option Spot)). Rattle.dispatch.specs.Closing.Closed t.tasks t.jobs x outcomes b v.jobs) spots g.closed) in (
+    let one = one_closing t.board.tasks t.board.jobs f.spots outcomes a b u.board.jobs v.board.jobs f.closed
+    (subst (λ (x : List (Option Spot)). Rattle.dispatch.specs.Closing.Closed t.board.tasks t.board.jobs x outcomes b v.board.jobs) spots g.closed) in (
       one.0,
       tables_equal u v (f.same.same_plan ∙ sym g.same.same_plan) (f.same.same_held ∙ sym g.same.same_held) one.1
           (f.waited ∙ sym g.waited) (f.same_bounds ∙ sym g.same_bounds) (f.no_tick ∙ sym g.no_tick),

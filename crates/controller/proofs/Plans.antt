@@ -36,7 +36,7 @@ abbrev TurnedBy : Meaning → Tables → List ℕ → Refusal → Type 0
 TurnedBy o t list e =
     ((length list < 16) × (e ≡ ShortList 16)) ⊎ ((16 ≤ length list) × (((R : List ℕ) → Solves o.most t.plan R → ⊥) × (e ≡ NoBounds)))
 
-turned_by : (o : Meaning) (t : Tables) (list : List ℕ) (e : Refusal) → NoneOpen t.jobs → t.tick ≡ None → TurnedAway o t (checks (Admit list)) e → TurnedBy o t list e
+turned_by : (o : Meaning) (t : Tables) (list : List ℕ) (e : Refusal) → NoneOpen t.board.jobs → t.tick ≡ None → TurnedAway o t (checks (Admit list)) e → TurnedBy o t list e
 turned_by o t list e none quiet (inl f) = absurd (some_not_none f.0.1 quiet)
 turned_by o t list e none quiet (inr (p, inl f)) = absurd (some_not_none f.0.there (none f.0.slot f.0.within))
 turned_by o t list e none quiet (inr (p, inr (q, inl f))) = inl f
@@ -48,8 +48,8 @@ module _ (o q : Meaning) (t t' : Tables) (exact : Exact t) (exact' : Exact t') (
   one_answer a b f g =
       same_tasks_same_bounds_lem o.most q.most (table_in t) (table_in t') t.plan t'.plan a b equal.same_order.most equal.same_cores equal.same_tasks exact exact' f g
 
-  as_many : held_in t.tasks ≡ held_in t'.tasks
-  as_many = held_same t.tasks t'.tasks (t.sized.0 ∙ sym t'.sized.0) (λ s l. equal.same_tasks s (omega (arith, t.sized.0)))
+  as_many : held_in t.board.tasks ≡ held_in t'.board.tasks
+  as_many = held_same t.board.tasks t'.board.tasks (t.sized.0 ∙ sym t'.sized.0) (λ s l. equal.same_tasks s (omega (arith, t.sized.0)))
 
   refused_alike : (e d : Refusal) → TurnedBy o t list e → TurnedBy q t' list d → d ≡ e
   refused_alike e d (inl f) (inl g) = g.1 ∙ sym f.1

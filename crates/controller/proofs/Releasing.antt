@@ -43,10 +43,10 @@ module _ (o : Meaning) (t u : Tables) (b : ℕ → Line) (sound : Sound o t b) (
   kept_due s τ l e = sound.due s τ l (ap (λ (ts : List (Option Task)). task_at ts s) (sym same.same_held) ∙ e)
 
 -- the parts of tables by their equations
-pub parts_are : (u : Tables) (x : Parts) → u.plan ≡ x.plan → u.tasks ≡ x.tasks → u.jobs ≡ x.jobs → u.waited ≡ x.waited → u.bounds ≡ x.bounds → parts u ≡ x
+pub parts_are : (u : Tables) (x : Parts) → u.plan ≡ x.plan → u.board.tasks ≡ x.tasks → u.board.jobs ≡ x.jobs → u.waited ≡ x.waited → u.bounds ≡ x.bounds → parts u ≡ x
 parts_are u x a b c d e =
-    ap (λ (y : Plan). record { plan = y; tasks = u.tasks; jobs = u.jobs; waited = u.waited; bounds = u.bounds }) a
-    ∙ ap (λ (y : List (Option Task)). record { plan = x.plan; tasks = y; jobs = u.jobs; waited = u.waited; bounds = u.bounds }) b
+    ap (λ (y : Plan). record { plan = y; tasks = u.board.tasks; jobs = u.board.jobs; waited = u.waited; bounds = u.bounds }) a
+    ∙ ap (λ (y : List (Option Task)). record { plan = x.plan; tasks = y; jobs = u.board.jobs; waited = u.waited; bounds = u.bounds }) b
     ∙ ap (λ (y : List (Option Job)). record { plan = x.plan; tasks = x.tasks; jobs = y; waited = u.waited; bounds = u.bounds }) c
     ∙ ap (λ (y : List (Option ℕ)). record { plan = x.plan; tasks = x.tasks; jobs = x.jobs; waited = y; bounds = u.bounds }) d
     ∙ ap (λ (y : Option (List ℕ)). record { plan = x.plan; tasks = x.tasks; jobs = x.jobs; waited = x.waited; bounds = y }) e
@@ -57,16 +57,16 @@ since_none : (w : Option ℕ) → Since w 0 []
 since_none None = refl
 since_none (Some w) = tt
 
-module _ (o : Meaning) (t u : Tables) (b : ℕ → Line) (sound : Sound o t b) (none : NoneOpen t.jobs) (no_tick : t.tick ≡ None)
+module _ (o : Meaning) (t u : Tables) (b : ℕ → Line) (sound : Sound o t b) (none : NoneOpen t.board.jobs) (no_tick : t.tick ≡ None)
     (list : List ℕ) (n : ℕ) (after : List ℕ) (adm : Admitted o t list n after u) where
   abbrev admitted_parts : Parts
-  admitted_parts = record { plan = t.plan; tasks = t.tasks; jobs = t.jobs; waited = t.waited; bounds = Some adm.bounds }
+  admitted_parts = record { plan = t.plan; tasks = t.board.tasks; jobs = t.board.jobs; waited = t.waited; bounds = Some adm.bounds }
 
   begins : Epoch o admitted_parts b
   begins =
       record {
         solves = adm.least.solves;
-        state = start (system o t.plan t.tasks adm.bounds);
+        state = start (system o t.plan t.board.tasks adm.bounds);
         run = begun;
         slots = λ s l. (none s l, no_entries o (parts t) b t.bounds sound.epoch none s l, since_none (waited_at t.waited s));
       }
@@ -117,13 +117,13 @@ module _ (o : Meaning) (t u : Tables) (b : ℕ → Line) (sound : Sound o t b) (
   running = subst (EpochBy o (parts t) b) rel.admitted sound.epoch
 
   abbrev y : System
-  y = system o t.plan t.tasks R
+  y = system o t.plan t.board.tasks R
 
   abbrev b' : ℕ → Line
   b' k = entered (Release s) (Ok told) k (b k)
 
   abbrev asks : DemandThere t.plan τ s
-  asks = demand_there t.tasks t.plan τ s task-is (sound.exact s l)
+  asks = demand_there t.board.tasks t.plan τ s task-is (sound.exact s l)
 
   abbrev SlotThere : ℕ → Slot JobState → Type 0
   SlotThere k x = SameSlot t.plan k (bound R k) (b k).deadline running.state.now x (job_in t k) (waited_in t k) (b k).unended
@@ -139,7 +139,7 @@ module _ (o : Meaning) (t u : Tables) (b : ℕ → Line) (sound : Sound o t b) (
       go (busy r spent j past) m = absurd (some_not_none m.0.there ended)
 
   abbrev released_parts : Parts
-  released_parts = record { plan = t.plan; tasks = t.tasks; jobs = set t.jobs s (Some new_job); waited = set t.waited s (Some 0); bounds = Some R }
+  released_parts = record { plan = t.plan; tasks = t.board.tasks; jobs = set t.board.jobs s (Some new_job); waited = set t.waited s (Some 0); bounds = Some R }
 
   since_now : (w : Option ℕ) (past : List Done) → Since w running.state.now past → Since (Some 0) running.state.now past
   since_now w past h = spaced 0 running.state.now w past h (λ n e. omega arith)
@@ -167,11 +167,11 @@ module _ (o : Meaning) (t u : Tables) (b : ℕ → Line) (sound : Sound o t b) (
   )
 
   slot_here : SameSlot t.plan s (bound R s) (b' s).deadline running.state.now ((release y s running.state).slot s)
-      (job_at (set t.jobs s (Some new_job)) s) (waited_at (set t.waited s (Some 0)) s) (b' s).unended
+      (job_at (set t.board.jobs s (Some new_job)) s) (waited_at (set t.waited s (Some 0)) s) (b' s).unended
   slot_here =
       subst (λ (x : Option Job). SameSlot t.plan s (bound R s) (b' s).deadline running.state.now ((release y s running.state).slot s) x
       (waited_at (set t.waited s (Some 0)) s) (b' s).unended)
-      (sym (at_new t.jobs (set t.jobs s (Some new_job)) s (Some new_job) None refl (omega (arith, t.sized.1))))
+      (sym (at_new t.board.jobs (set t.board.jobs s (Some new_job)) s (Some new_job) None refl (omega (arith, t.sized.1))))
       (subst (λ (x : Option ℕ). SameSlot t.plan s (bound R s) (b' s).deadline running.state.now ((release y s running.state).slot s) (Some new_job) x (b' s).unended)
       (sym (at_new t.waited (set t.waited s (Some 0)) s (Some 0) None refl (omega (arith, t.sized.2))))
       (subst (λ (x : Line). SameSlot t.plan s (bound R s) x.deadline running.state.now ((release y s running.state).slot s) (Some new_job) (Some 0) x.unended)
@@ -179,11 +179,11 @@ module _ (o : Meaning) (t u : Tables) (b : ℕ → Line) (sound : Sound o t b) (
       (new_slot (running.state.slot s) (b s).unended (eqb s s) (here_same s s refl) refl (running.slots s l))))
 
   slot_there : (k : ℕ) → k < 16 → k ≢ s → SameSlot t.plan k (bound R k) (b' k).deadline running.state.now ((release y s running.state).slot k)
-      (job_at (set t.jobs s (Some new_job)) k) (waited_at (set t.waited s (Some 0)) k) (b' k).unended
+      (job_at (set t.board.jobs s (Some new_job)) k) (waited_at (set t.waited s (Some 0)) k) (b' k).unended
   slot_there k m n =
       subst (λ (x : Option Job). SameSlot t.plan k (bound R k) (b' k).deadline running.state.now ((release y s running.state).slot k) x
       (waited_at (set t.waited s (Some 0)) k) (b' k).unended)
-      (sym (at_other t.jobs (set t.jobs s (Some new_job)) s (Some new_job) None refl k n))
+      (sym (at_other t.board.jobs (set t.board.jobs s (Some new_job)) s (Some new_job) None refl k n))
       (subst (λ (x : Option ℕ). SameSlot t.plan k (bound R k) (b' k).deadline running.state.now ((release y s running.state).slot k) (job_in t k) x (b' k).unended)
       (sym (at_other t.waited (set t.waited s (Some 0)) s (Some 0) None refl k n))
       (subst (λ (x : Line). SameSlot t.plan k (bound R k) x.deadline running.state.now ((release y s running.state).slot k) (job_in t k) (waited_in t k) x.unended)
@@ -199,7 +199,7 @@ module _ (o : Meaning) (t u : Tables) (b : ℕ → Line) (sound : Sound o t b) (
         run = released s running.run may;
         slots = λ k m. elim (cases_eq k s) [
           | inl e ↦ subst (λ (x : ℕ). SameSlot t.plan x (bound R x) (b' x).deadline running.state.now ((release y s running.state).slot x)
-              (job_at (set t.jobs s (Some new_job)) x) (waited_at (set t.waited s (Some 0)) x) (b' x).unended) (sym e) slot_here
+              (job_at (set t.board.jobs s (Some new_job)) x) (waited_at (set t.waited s (Some 0)) x) (b' x).unended) (sym e) slot_here
           | inr n ↦ slot_there k m n
         ];
       }
@@ -240,11 +240,11 @@ module _ (o : Meaning) (t u : Tables) (b : ℕ → Line) (sound : Sound o t b) (
         ended = sound.ended;
         epoch = subst (λ (x : Parts). Epoch o x b)
             (sym (parts_are u (parts t) op.same.same_plan op.same.same_held op.same_jobs op.same_waited op.same_bounds)) sound.epoch;
-        ticked = λ spots e. (n, subst (λ (x : List (Option Spot)). PlacedBy o u.tasks u.jobs (cores u) x n) (one_some op.ticking e) there_too);
+        ticked = λ spots e. (n, subst (λ (x : List (Option Spot)). PlacedBy o u.board.tasks u.board.jobs (cores u) x n) (one_some op.ticking e) there_too);
       }
     where
-      there_too : PlacedBy o u.tasks u.jobs (cores u) op.spots n
+      there_too : PlacedBy o u.board.tasks u.board.jobs (cores u) op.spots n
       there_too =
-          subst (λ (x : List (Option Task)). PlacedBy o x u.jobs (cores u) op.spots n) (sym op.same.same_held)
-          (subst (λ (x : List (Option Job)). PlacedBy o t.tasks x (cores u) op.spots n) (sym op.same_jobs)
-          (subst (λ (x : Plan). PlacedBy o t.tasks t.jobs x.cores op.spots n) (sym op.same.same_plan) op.placed))
+          subst (λ (x : List (Option Task)). PlacedBy o x u.board.jobs (cores u) op.spots n) (sym op.same.same_held)
+          (subst (λ (x : List (Option Job)). PlacedBy o t.board.tasks x (cores u) op.spots n) (sym op.same_jobs)
+          (subst (λ (x : Plan). PlacedBy o t.board.tasks t.board.jobs x.cores op.spots n) (sym op.same.same_plan) op.placed))

@@ -32,7 +32,7 @@ use Rattle.controller.proofs.InTime.{LawfulOrder, planned, is_there}
 use Rattle.controller.proofs.Ticking.{with_job}
 
 module _ (o : Meaning) (laws : LawfulOrder o) (t : Tables) (b : ℕ → Line) (sound : Sound o t b) (s v w : ℕ) (apart : v ≢ w)
-    (one : ReadyIn t.tasks t.jobs s v) (other : ReadyIn t.tasks t.jobs s w) where
+    (one : ReadyIn t.board.tasks t.board.jobs s v) (other : ReadyIn t.board.tasks t.board.jobs s w) where
   -- in a run
   shared_running : (R : List ℕ) → Running o (parts t) b R → MayShare (task_nodes one.task) (task_arcs one.task) v w
   shared_running R running =
@@ -45,12 +45,12 @@ module _ (o : Meaning) (laws : LawfulOrder o) (t : Tables) (b : ℕ → Line) (s
       share : (k : JobState) (d : Demand) → held t.plan s ≡ Some d → one.job.states ≡ k.states → (r : ℕ) (spent : List ℕ) (past : _)
           → running.state.slot s ≡ busy r spent k past → MayShare (task_nodes one.task) (task_arcs one.task) v w
       share k d asks same r spent past at =
-          let p = planned t.tasks t.plan sound.exact o R laws running.solves in
-          let reached : SoundSlot (graph_jobs (nodes_of (tables_of t.tasks s)) (arcs_of (tables_of t.tasks s))) (running.state.slot s) =
-          run_sound (system o t.plan t.tasks R) (plan_bounded o.goes o.most t.plan R (tables_of t.tasks) p) (jobs_sound o.goes o.most t.plan R (tables_of t.tasks) p)
+          let p = planned t.board.tasks t.plan sound.exact o R laws running.solves in
+          let reached : SoundSlot (graph_jobs (nodes_of (tables_of t.board.tasks s)) (arcs_of (tables_of t.board.tasks s))) (running.state.slot s) =
+          run_sound (system o t.plan t.board.tasks R) (plan_bounded o.goes o.most t.plan R (tables_of t.board.tasks) p) (jobs_sound o.goes o.most t.plan R (tables_of t.board.tasks) p)
           running.state running.run s (one.slot_below, is_there t.plan s d asks) in
-          let here : Reached 64 (nodes_of (tables_of t.tasks s)) (arcs_of (tables_of t.tasks s)) k.states k.ran =
-          subst (SoundSlot (graph_jobs (nodes_of (tables_of t.tasks s)) (arcs_of (tables_of t.tasks s)))) at reached in
+          let here : Reached 64 (nodes_of (tables_of t.board.tasks s)) (arcs_of (tables_of t.board.tasks s)) k.states k.ran =
+          subst (SoundSlot (graph_jobs (nodes_of (tables_of t.board.tasks s)) (arcs_of (tables_of t.board.tasks s)))) at reached in
           let lawful = lawful_task one.task.table one.task.lawful in
           ready_may_share_holds_lem 64 (task_nodes one.task) (task_arcs one.task) k.states k.ran (task_ranged one.task.table lawful) lawful.shaped
           (subst (λ (x : Option Task). Reached 64 (nodes_of (table_or x)) (arcs_of (table_or x)) k.states k.ran) one.its_task here)
@@ -74,7 +74,7 @@ apart_after_no o laws t u s v w (Err e) d = tt
 apart_after_no o laws t u s v w (Ok false) (p, d) = λ apart h q spots past same ticking one other.
     let sound = history_sound o laws h q past in
     let placed = sound.ticked spots ticking in
-    let once = places_once (ReadyIn q.tasks q.jobs) (KeptIn q.jobs) (GoesAhead o q.tasks q.jobs) (cores q) spots placed.0 placed.1 in
+    let once = places_once (ReadyIn q.board.tasks q.board.jobs) (KeptIn q.board.jobs) (GoesAhead o q.board.tasks q.board.jobs) (cores q) spots placed.0 placed.1 in
     let x = once.ready_ones one.0 (spot s v) one.2 in
     let y = once.ready_ones other.0 (spot s w) other.2 in
     d.answer (subst (λ (τ : Task). MayShare (task_nodes τ) (task_arcs τ) v w) (one_some x.its_task (same ∙ d.held)) (ready_share o laws q (book h) sound s v w apart x y))

@@ -83,12 +83,12 @@ ages : (t q r a b : ℕ) → q + a ≡ t → r + b ≡ t → pos b -ℤ pos a �
 ages t q r a b e f = omega (arith, ints)
 
 module _ (o : Meaning) (laws : LawfulOrder o) (t : Tables) (b : ℕ → Line) (sound : Sound o t b) (R : List ℕ) (running : Running o (parts t) b R)
-    (spots : List (Option Spot)) (n : ℕ) (placed : PlacedBy o t.tasks t.jobs (cores t) spots n)
-    (outcomes : List ℕ) (as_many : length outcomes ≡ cores t) (right : AllRight t.tasks t.jobs spots outcomes) where
+    (spots : List (Option Spot)) (n : ℕ) (placed : PlacedBy o t.board.tasks t.board.jobs (cores t) spots n)
+    (outcomes : List ℕ) (as_many : length outcomes ≡ cores t) (right : AllRight t.board.tasks t.board.jobs spots outcomes) where
   abbrev y : System
-  y = system o t.plan t.tasks R
+  y = system o t.plan t.board.tasks R
 
-  abbrev σ : State (system o t.plan t.tasks R)
+  abbrev σ : State (system o t.plan t.board.tasks R)
   σ = running.state
 
   abbrev pub tick_places : List (Place Outcome)
@@ -97,16 +97,16 @@ module _ (o : Meaning) (laws : LawfulOrder o) (t : Tables) (b : ℕ → Line) (s
   abbrev InSlot : ℕ → Slot JobState → Type 0
   InSlot s x = SameSlot t.plan s (bound R s) (b s).deadline σ.now x (job_in t s) (waited_in t s) (b s).unended
 
-  once : EachOnce (ReadyIn t.tasks t.jobs) spots
-  once = places_once (ReadyIn t.tasks t.jobs) (KeptIn t.jobs) (GoesAhead o t.tasks t.jobs) (cores t) spots n placed
+  once : EachOnce (ReadyIn t.board.tasks t.board.jobs) spots
+  once = places_once (ReadyIn t.board.tasks t.board.jobs) (KeptIn t.board.jobs) (GoesAhead o t.board.tasks t.board.jobs) (cores t) spots n placed
 
-  spares : SparesNone (ReadyIn t.tasks t.jobs) (GoesAhead o t.tasks t.jobs) (cores t) spots n
+  spares : SparesNone (ReadyIn t.board.tasks t.board.jobs) (GoesAhead o t.board.tasks t.board.jobs) (cores t) spots n
   spares =
-      conserving (ReadyIn t.tasks t.jobs) (KeptIn t.jobs) (GoesAhead o t.tasks t.jobs) 16 (λ s v r. r.slot_below) (in_order o laws t.tasks t.jobs)
+      conserving (ReadyIn t.board.tasks t.board.jobs) (KeptIn t.board.jobs) (GoesAhead o t.board.tasks t.board.jobs) 16 (λ s v r. r.slot_below) (in_order o laws t.board.tasks t.board.jobs)
       (cores t) spots n placed
 
   -- what a core runs may have its turn
-  turn_right : (p : Spot) (byte : ℕ) → ReadyIn t.tasks t.jobs p.slot p.node → RightAt t.tasks t.jobs p (meant byte)
+  turn_right : (p : Spot) (byte : ℕ) → ReadyIn t.board.tasks t.board.jobs p.slot p.node → RightAt t.board.tasks t.board.jobs p (meant byte)
       → (p.slot < 16) × MayHaveAt (y.jobs p.slot) (place_of p byte).turn (σ.slot p.slot)
   turn_right p byte r w = (
     r.slot_below,
@@ -134,13 +134,13 @@ module _ (o : Meaning) (laws : LawfulOrder o) (t : Tables) (b : ℕ → Line) (s
           )
 
   -- a node that is ready in the run is ready in the tables
-  ready_there : (s w : ℕ) → s < 16 → ReadyAt (y.jobs s) w (σ.slot s) → ReadyIn t.tasks t.jobs s w
+  ready_there : (s w : ℕ) → s < 16 → ReadyAt (y.jobs s) w (σ.slot s) → ReadyIn t.board.tasks t.board.jobs s w
   ready_there s w l h = go (σ.slot s) (running.slots s l) h
     where
-      go : (x : Slot JobState) → InSlot s x → ReadyAt (y.jobs s) w x → ReadyIn t.tasks t.jobs s w
+      go : (x : Slot JobState) → InSlot s x → ReadyAt (y.jobs s) w x → ReadyIn t.board.tasks t.board.jobs s w
       go (idle past) m h = absurd h
       go (busy r spent k past) m h =
-          let a = asking_at t.tasks t.plan sound.exact s m.0.demand l m.0.asks in
+          let a = asking_at t.board.tasks t.plan sound.exact s m.0.demand l m.0.asks in
           record {
             slot_below = l;
             task = a.task;
@@ -154,13 +154,13 @@ module _ (o : Meaning) (laws : LawfulOrder o) (t : Tables) (b : ℕ → Line) (s
   -- the party of a slot is the same to the run
   same_party : (s : ℕ) (d : Demand) (τ : Task) → s < 16 → held t.plan s ≡ Some d → task_in t s ≡ Some τ → party s τ ≡ party_at s (held t.plan s)
   same_party s d τ l e f =
-      let a = asking_at t.tasks t.plan sound.exact s d l e in
+      let a = asking_at t.board.tasks t.plan sound.exact s d l e in
       ap (party s) (one_some f a.there_is)
       ∙ ap (λ (x : ℕ). record { slot = s; period = x; deadline = deadline a.task }) (sym a.asks.period)
       ∙ ap (λ (x : ℕ). record { slot = s; period = d.period; deadline = x }) (sym a.asks.deadline)
       ∙ ap (party_at s) (sym e)
 
-  ahead_there : (i k : ℕ) → i < 16 → k < 16 → GoesFirst o t.tasks t.jobs i k → RunAhead y σ i k
+  ahead_there : (i k : ℕ) → i < 16 → k < 16 → GoesFirst o t.board.tasks t.board.jobs i k → RunAhead y σ i k
   ahead_there i k li lk g =
       with_job t.plan k (bound R k) (b k).deadline σ.now
       (OpenAt (λ r. OpenAt (λ q. o.goes (party_at i (held t.plan i)) (party_at k (held t.plan k)) (pos q -ℤ pos r) ≡ true) (σ.slot i)))
@@ -183,25 +183,25 @@ module _ (o : Meaning) (laws : LawfulOrder o) (t : Tables) (b : ℕ → Line) (s
           (ap (λ (j : Job). r + j.age) (one_some g.other_open m.there) ∙ m.age))
           g.goes))
 
-  pub may_tick_lem : MayTick (system o t.plan t.tasks R) running.state tick_places
+  pub may_tick_lem : MayTick (system o t.plan t.board.tasks R) running.state tick_places
   may_tick_lem =
       record {
         allowed = each_place (λ c. (c.slot < 16) × MayHaveAt (y.jobs c.slot) c.turn (σ.slot c.slot)) spots outcomes (length outcomes)
             (λ c p l e. turn_right p (byte_at outcomes c) (once.ready_ones c p e)
-            (subst (λ (x : Option Spot). RightFor t.tasks t.jobs x (byte_at outcomes c)) e (right c l)));
+            (subst (λ (x : Option Spot). RightFor t.board.tasks t.board.jobs x (byte_at outcomes c)) e (right c l)));
         once = λ k v. one_place spots outcomes k v (λ c d e f. once.once c d (spot k v) e f) (length outcomes);
         few = omega (arith, few_places spots outcomes (length outcomes), as_many);
         work_conserving = λ k w h r none. full k w h.0 (ready_there k w h.0 r) none;
       }
     where
-      waits : (k w : ℕ) → ReadyIn t.tasks t.jobs k w → places_of k w tick_places ≡ 0 → Waits (ReadyIn t.tasks t.jobs) spots (cores t) k w
+      waits : (k w : ℕ) → ReadyIn t.board.tasks t.board.jobs k w → places_of k w tick_places ≡ 0 → Waits (ReadyIn t.board.tasks t.board.jobs) spots (cores t) k w
       waits k w r none =
           record {
             is_ready = r;
             not_placed = λ h. no_place spots outcomes k w (length outcomes) none (subst (λ (c : ℕ). HasCore spots c k w) (sym as_many) h);
           }
 
-      full : (k w : ℕ) → k < 16 → ReadyIn t.tasks t.jobs k w → places_of k w tick_places ≡ 0
+      full : (k w : ℕ) → k < 16 → ReadyIn t.board.tasks t.board.jobs k w → places_of k w tick_places ≡ 0
           → (length tick_places ≡ t.plan.cores) × AllByRecursion (λ c. (c.slot ≡ k) ⊎ RunAhead y σ c.slot k) tick_places
       full k w l r none =
           let w' = waits k w r none in (
@@ -211,6 +211,6 @@ module _ (o : Meaning) (laws : LawfulOrder o) (t : Tables) (b : ℕ → Line) (s
                 (λ c p m e. which p (spares.all_ahead k w w' c (omega (arith, as_many)) p e)),
           )
         where
-          which : (p : Spot) → GoesAhead o t.tasks t.jobs p.slot k → (p.slot ≡ k) ⊎ RunAhead y σ p.slot k
+          which : (p : Spot) → GoesAhead o t.board.tasks t.board.jobs p.slot k → (p.slot ≡ k) ⊎ RunAhead y σ p.slot k
           which p (li, lk, inl e) = inl e
           which p (li, lk, inr g) = inr (ahead_there p.slot k li lk g)

@@ -65,14 +65,14 @@ pub record PastNodes (t : Tables) (s v : ℕ) : Type 0 where
 pub record WrongOn (t : Tables) (outcomes : List ℕ) (c : ℕ) : Type 0 where
   pub spots : List (Option Spot)
   pub ticking : Ticking t spots
-  pub first : FailsFirst (RightOn t.tasks t.jobs spots outcomes) (length outcomes) c
+  pub first : FailsFirst (RightOn t.board.tasks t.board.jobs spots outcomes) (length outcomes) c
 
 -- the check fails, and turns the call away with this refusal
 abbrev pub Fails : Meaning → Tables → Check → Refusal → Type 0
 Fails o t (slot_exists s) e = (16 ≤ s) × (e ≡ NoSlot)
 Fails o t no_tick_open e = ((spots : List (Option Spot)) × Ticking t spots) × (e ≡ TickOpen)
-Fails o t no_job_open e = SomeOpen t.jobs × (e ≡ JobOpen)
-Fails o t (slot_free s) e = HoldsTask t.tasks s × (e ≡ Occupied)
+Fails o t no_job_open e = SomeOpen t.board.jobs × (e ≡ JobOpen)
+Fails o t (slot_free s) e = HoldsTask t.board.tasks s × (e ≡ Occupied)
 Fails o t (table_lawful bytes) e = (r : TableRefusal) × Told bytes (Err r) × (e ≡ Table r)
 Fails o t (slot_held s) e = (task_in t s ≡ None) × (e ≡ Empty)
 Fails o t (node_exists s v) e = PastNodes t s v × (e ≡ NoNode)
@@ -82,7 +82,7 @@ Fails o t (room_for_cores list) e = (length list < cores t) × (e ≡ ShortList 
 Fails o t bounds_exist e = ((R : List ℕ) → Solves o.most t.plan R → ⊥) × (e ≡ NoBounds)
 Fails o t admitted e = (t.bounds ≡ None) × (e ≡ NotAdmitted)
 Fails o t (period_over s) e = (n : ℕ) × Early t s n × (e ≡ TooSoon n)
-Fails o t (earlier_ended s) e = HasJob t.jobs s × (e ≡ StillOpen)
+Fails o t (earlier_ended s) e = HasJob t.board.jobs s × (e ≡ StillOpen)
 Fails o t tick_open e = (t.tick ≡ None) × (e ≡ NoTick)
 Fails o t (outcome_for_each_core outcomes) e = (length outcomes ≢ cores t) × (e ≡ Outcomes (cores t))
 Fails o t (outcomes_allowed outcomes) e = (c : ℕ) × WrongOn t outcomes c × (e ≡ Outcome c)
@@ -91,10 +91,10 @@ Fails o t (outcomes_allowed outcomes) e = (c : ℕ) × WrongOn t outcomes c × (
 abbrev pub Passes : Meaning → Tables → Check → Type 0
 Passes o t (slot_exists s) = s < 16
 Passes o t no_tick_open = t.tick ≡ None
-Passes o t no_job_open = NoneOpen t.jobs
+Passes o t no_job_open = NoneOpen t.board.jobs
 Passes o t (slot_free s) = task_in t s ≡ None
 Passes o t (table_lawful bytes) = (table : Records) × Told bytes (Ok table)
-Passes o t (slot_held s) = HoldsTask t.tasks s
+Passes o t (slot_held s) = HoldsTask t.board.tasks s
 Passes o t (node_exists s v) = (τ : Task) × (task_in t s ≡ Some τ) × (v < length (task_nodes τ))
 Passes o t (time_in_range x) = (1 ≤ x) × (x ≤ 65535)
 Passes o t (room_for_bounds list) = 16 ≤ length list
@@ -106,7 +106,7 @@ Passes o t (earlier_ended s) = job_in t s ≡ None
 Passes o t tick_open = (spots : List (Option Spot)) × Ticking t spots
 Passes o t (outcome_for_each_core outcomes) = length outcomes ≡ cores t
 Passes o t (outcomes_allowed outcomes) =
-    (spots : List (Option Spot)) → Ticking t spots → AllRight t.tasks t.jobs spots outcomes
+    (spots : List (Option Spot)) → Ticking t spots → AllRight t.board.tasks t.board.jobs spots outcomes
 
 -- what a check answers: it passes, or turns the call away
 abbrev pub Decided : Tables → Check → Result (Unit {0}) Refusal → Type 0

@@ -66,8 +66,8 @@ pub record Opened (m : ℕ) (t : Tables) : Type 0 where
   pub few_cores : m ≤ 16
   pub cores : t.plan.cores ≡ m
   pub no_demands : t.plan.slots ≡ replicate 16 None
-  pub no_tasks : t.tasks ≡ replicate 16 None
-  pub no_jobs : t.jobs ≡ replicate 16 None
+  pub no_tasks : t.board.tasks ≡ replicate 16 None
+  pub no_jobs : t.board.jobs ≡ replicate 16 None
   pub no_releases : t.waited ≡ replicate 16 None
   pub not_admitted : t.bounds ≡ None
   pub no_tick : t.tick ≡ None

@@ -24,11 +24,11 @@ one_more (Some w) = Some (min (w + 1) 1000000)
 
 -- the slot has another task, or none; the admission ends, and nothing else changes but what has been waited
 pub record Edited (t : Tables) (s : ℕ) (task : Option Task) (demand : Option Demand) (u : Tables) : Type 0 where
-  pub tasks : u.tasks ≡ slice_set t.tasks s task
+  pub tasks : u.board.tasks ≡ slice_set t.board.tasks s task
   pub demands : u.plan.slots ≡ slice_set t.plan.slots s demand
   pub no_bounds : u.bounds ≡ None
   pub same_cores : u.plan.cores ≡ t.plan.cores
-  pub same_jobs : u.jobs ≡ t.jobs
+  pub same_jobs : u.board.jobs ≡ t.board.jobs
   pub same_tick : u.tick ≡ t.tick
 
 -- the slot has this task, and the plan what it asks; the answer is its L and W
@@ -63,7 +63,7 @@ pub record Retimed (t : Tables) (s v x : ℕ) (a : ℕ × ℕ) (u : Tables) : Ty
 -- the tasks stay, and what is asked of the plan
 pub record SameTasks (t u : Tables) : Type 0 where
   pub same_plan : u.plan ≡ t.plan
-  pub same_held : u.tasks ≡ t.tasks
+  pub same_held : u.board.tasks ≡ t.board.tasks
 
 -- the least bounds are kept and told, and the number of tasks answered
 pub record Admitted (o : Meaning) (t : Tables) (list : List ℕ) (n : ℕ) (after : List ℕ) (u : Tables) : Type 0 where
@@ -71,9 +71,9 @@ pub record Admitted (o : Meaning) (t : Tables) (list : List ℕ) (n : ℕ) (afte
   pub least : Least o.most t.plan bounds
   pub kept : u.bounds ≡ Some bounds
   pub told : after ≡ bounds ++ drop 16 list
-  pub counted : n ≡ held_in t.tasks
+  pub counted : n ≡ held_in t.board.tasks
   pub same : SameTasks t u
-  pub same_jobs : u.jobs ≡ t.jobs
+  pub same_jobs : u.board.jobs ≡ t.board.jobs
   pub same_waited : u.waited ≡ t.waited
   pub same_tick : u.tick ≡ t.tick
 
@@ -82,7 +82,7 @@ pub record Released (t : Tables) (s b : ℕ) (u : Tables) : Type 0 where
   pub bounds : List ℕ
   pub admitted : t.bounds ≡ Some bounds
   pub told : b ≡ bound bounds s
-  pub opened : u.jobs ≡ slice_set t.jobs s (Some new_job)
+  pub opened : u.board.jobs ≡ slice_set t.board.jobs s (Some new_job)
   pub just_now : u.waited ≡ slice_set t.waited s (Some 0)
   pub same : SameTasks t u
   pub same_bounds : u.bounds ≡ t.bounds
@@ -91,11 +91,11 @@ pub record Released (t : Tables) (s b : ℕ) (u : Tables) : Type 0 where
 -- the cores run the nodes that come first, by the order; they are told, and the number of busy cores answered
 pub record TickOpened (o : Meaning) (t : Tables) (list : List ℕ) (n : ℕ) (after : List ℕ) (u : Tables) : Type 0 where
   pub spots : List (Option Spot)
-  pub placed : Placed (ReadyIn t.tasks t.jobs) (KeptIn t.jobs) (GoesAhead o t.tasks t.jobs) (cores t) spots n
+  pub placed : Placed (ReadyIn t.board.tasks t.board.jobs) (KeptIn t.board.jobs) (GoesAhead o t.board.tasks t.board.jobs) (cores t) spots n
   pub told : Written spots (cores t) list after
   pub ticking : Ticking u spots
   pub same : SameTasks t u
-  pub same_jobs : u.jobs ≡ t.jobs
+  pub same_jobs : u.board.jobs ≡ t.board.jobs
   pub same_waited : u.waited ≡ t.waited
   pub same_bounds : u.bounds ≡ t.bounds
 
@@ -103,7 +103,7 @@ pub record TickOpened (o : Meaning) (t : Tables) (list : List ℕ) (n : ℕ) (af
 pub record TickClosed (t : Tables) (outcomes : List ℕ) (mask : ℕ) (u : Tables) : Type 0 where
   pub spots : List (Option Spot)
   pub ticking : Ticking t spots
-  pub closed : Closed t.tasks t.jobs spots outcomes mask u.jobs
+  pub closed : Closed t.board.tasks t.board.jobs spots outcomes mask u.board.jobs
   pub waited : u.waited ≡ map one_more t.waited
   pub no_tick : u.tick ≡ None
   pub same : SameTasks t u

@@ -48,8 +48,8 @@ pub record EqualPlans (o q : Meaning) (t u : Tables) : Type 0 where
   pub same_order : SameMeaning o q
   -- the same slots are held, by tasks of equal period, deadline, nodes and set of arcs
   pub same_tasks : (s : ℕ) → s < 16 → SameSlot (table_in t s) (table_in u s)
-  pub no_job : NoneOpen t.jobs
-  pub no_job_there : NoneOpen u.jobs
+  pub no_job : NoneOpen t.board.jobs
+  pub no_job_there : NoneOpen u.board.jobs
   pub no_tick : t.tick ≡ None
   pub no_tick_there : u.tick ≡ None
 

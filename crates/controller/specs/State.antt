@@ -14,7 +14,7 @@ cores t = t.plan.cores
 
 -- by slot: its task, its open job, the ticks closed since the last release of its task
 abbrev pub task_in : Tables → ℕ → Option Task
-task_in t s = task_at t.tasks s
+task_in t s = task_at t.board.tasks s
 
 abbrev pub table_of : Option Task → Option Table
 table_of None = None
@@ -24,7 +24,7 @@ abbrev pub table_in : Tables → ℕ → Option Table
 table_in t s = table_of (task_in t s)
 
 abbrev pub job_in : Tables → ℕ → Option Job
-job_in t s = job_at t.jobs s
+job_in t s = job_at t.board.jobs s
 
 abbrev pub waited_in : Tables → ℕ → Option ℕ
 waited_in t s = slice_index_or t.waited s None

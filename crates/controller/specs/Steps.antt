@@ -17,20 +17,20 @@ use Rattle.controller.specs.State.{cores, party, period, held_in, Ticking, GoesA
 pub record BoundsKept (t : Tables) (bounds list : List ℕ) (n : ℕ) (after : List ℕ) (u : Tables) : Type 0 where
   pub kept : u.bounds ≡ Some bounds
   pub told : after ≡ bounds ++ drop 16 list
-  pub counted : n ≡ held_in t.tasks
+  pub counted : n ≡ held_in t.board.tasks
   pub same : SameTasks t u
-  pub same_jobs : u.jobs ≡ t.jobs
+  pub same_jobs : u.board.jobs ≡ t.board.jobs
   pub same_waited : u.waited ≡ t.waited
   pub same_tick : u.tick ≡ t.tick
 
 -- what the cores run is placed by the sets of jobs behind each, kept and told
 pub record SpotsKept (t : Tables) (ahead : List BitSet) (list : List ℕ) (n : ℕ) (after : List ℕ) (u : Tables) : Type 0 where
   pub spots : List (Option Spot)
-  pub placed : Places t.tasks t.jobs ahead (cores t) spots n
+  pub placed : Places t.board.tasks t.board.jobs ahead (cores t) spots n
   pub told : Written spots (cores t) list after
   pub ticking : Ticking u spots
   pub same : SameTasks t u
-  pub same_jobs : u.jobs ≡ t.jobs
+  pub same_jobs : u.board.jobs ≡ t.board.jobs
   pub same_waited : u.waited ≡ t.waited
   pub same_bounds : u.bounds ≡ t.bounds
 

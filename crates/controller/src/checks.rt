@@ -32,7 +32,7 @@ impl Tables {
     fn no_job_open(&self) -> Result<(), Refusal>
         ensures { Decided self.now no_job_open result }
     {
-        if self.jobs.iter().any(|job| job.is_some()) {
+        if self.board.jobs.iter().any(|job| job.is_some()) {
             return Err(Refusal::JobOpen);
         }
         Ok(())
@@ -41,7 +41,7 @@ impl Tables {
     // The slot of that number, where it exists, and no tick and no job is open.
     pub(crate) fn may_edit(&self, slot: u8) -> Result<Slot, Refusal>
         ensures { elim result [
-          | Ok s ↦ (s.number ≡ slot) × (self.now.tick ≡ None) × NoneOpen self.now.jobs
+          | Ok s ↦ (s.number ≡ slot) × (self.now.tick ≡ None) × NoneOpen self.now.board.jobs
           | Err e ↦ ((o : Meaning) (rest : List Check) → TurnedAway o self.now (slot_is_one slot ∷ no_tick_open ∷ no_job_open ∷ rest) e)
         ] }
     {
@@ -54,7 +54,7 @@ impl Tables {
     // Whether the tasks may be admitted, into a list of bounds.
     pub(crate) fn may_admit(&self, list: &[u32]) -> Result<(), Refusal>
         ensures { elim result [
-          | Ok _ ↦ (self.now.tick ≡ None) × NoneOpen self.now.jobs × (16 ≤ length list.now)
+          | Ok _ ↦ (self.now.tick ≡ None) × NoneOpen self.now.board.jobs × (16 ≤ length list.now)
           | Err e ↦ ((o : Meaning) → TurnedAway o self.now (no_tick_open ∷ no_job_open ∷ room_for_bounds list.now ∷ bounds_exist ∷ []) e)
         ] }
     {
@@ -85,7 +85,7 @@ impl Tables {
     pub(crate) fn slot_free(&self, slot: Slot) -> Result<(), Refusal>
         ensures { Decided self.now (slot_free slot.number) result }
     {
-        match self.tasks[slot.index()] {
+        match self.board.tasks[slot.index()] {
             None => Ok(()),
             Some(_) => Err(Refusal::Occupied),
         }
@@ -95,7 +95,7 @@ impl Tables {
     pub(crate) fn slot_held(&self, slot: Slot) -> Result<&Task, Refusal>
         ensures { Checked self.now (slot_held slot.number) (λ τ. task_in self.now slot.number ≡ Some τ.now) result }
     {
-        self.tasks[slot.index()].as_ref().ok_or(Refusal::Empty)
+        self.board.tasks[slot.index()].as_ref().ok_or(Refusal::Empty)
     }
 
     // The bounds of the tasks as they are, where they have been admitted.
@@ -124,7 +124,7 @@ impl Tables {
     pub(crate) fn earlier_ended(&self, slot: Slot) -> Result<(), Refusal>
         ensures { Decided self.now (earlier_ended slot.number) result }
     {
-        match self.jobs[slot.index()] {
+        match self.board.jobs[slot.index()] {
             None => Ok(()),
             Some(_) => Err(Refusal::StillOpen),
         }

@@ -85,7 +85,7 @@ impl<O: Order> Controller<O> {
         ensures refused { OnRefusal result ((self.new ≡ self.old) × (list.new ≡ list.old)) }
     {
         self.tables.may_tick(list)?;
-        let ahead = precedence(&self.order, &self.tables.tasks, &self.tables.jobs);
+        let ahead = precedence(&self.order, &self.tables.board);
         Ok(self.tables.keep_spots(&ahead, list))
     }
 

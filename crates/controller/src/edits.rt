@@ -17,7 +17,7 @@ impl Tables {
         ensures edited { Edited self.old slot.number task demand self.new }
         ensures waits { self.new.waited ≡ self.old.waited }
     {
-        self.tasks[slot.index()] = task;
+        self.board.tasks[slot.index()] = task;
         self.plan.slots[slot.index()] = demand;
         self.bounds = None;
     }

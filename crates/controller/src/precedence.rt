@@ -6,10 +6,9 @@ ghost use Rattle.dispatch.specs.Tables.{task_at, job_at};
 ghost use Rattle.controller.specs.Ahead.{AheadAmong};
 ghost use Rattle.controller.specs.Steps.{entrant, EntrantsAre, Precedence};
 
-use dispatch::job::Job;
+use dispatch::board::{Board, OpenJob};
 use order::{Order, Party, Slot};
 use sets::bit_set::BitSet;
-use task::Task;
 
 // An open job as the order sees it.
 #[derive(Clone, Copy, Drop)]
@@ -18,31 +17,27 @@ pub(crate) struct Entrant {
     pub age: u32,
 }
 
-fn entrant_of(tasks: &[Option<Task>; 16], jobs: &[Option<Job>; 16], slot: Slot) -> Option<Entrant>
-    ensures { result ≡ entrant slot.number (task_at tasks.now slot.number) (job_at jobs.now slot.number) }
+fn entrant_of(board: &Board, slot: Slot) -> Option<Entrant>
+    ensures { result ≡ entrant slot.number (task_at board.now.tasks slot.number) (job_at board.now.jobs slot.number) }
 {
-    match (&tasks[slot.index()], &jobs[slot.index()]) {
-        (Some(task), Some(job)) => {
-            let timing = task.timing();
-            let party = Party {
-                slot: slot.number(),
-                period: timing.period,
-                deadline: timing.deadline,
-            };
-            Some(Entrant {
-                party,
-                age: job.age,
-            })
-        }
-        _ => None,
-    }
+    let OpenJob { task, job } = board.open(slot.index())?;
+    let timing = task.timing();
+    let party = Party {
+        slot: slot.number(),
+        period: timing.period,
+        deadline: timing.deadline,
+    };
+    Some(Entrant {
+        party,
+        age: job.age,
+    })
 }
 
 // The open jobs by slot.
-fn entrants_of(tasks: &[Option<Task>; 16], jobs: &[Option<Job>; 16]) -> [Option<Entrant>; 16]
-    ensures { EntrantsAre tasks.now jobs.now result }
+fn entrants_of(board: &Board) -> [Option<Entrant>; 16]
+    ensures { EntrantsAre board.now.tasks board.now.jobs result }
 {
-    Slot::map_all(|slot| entrant_of(tasks, jobs, slot))
+    Slot::map_all(|slot| entrant_of(board, slot))
 }
 
 // Whether the first job goes ahead of the other: it was released as many ticks after it as it is younger.
@@ -77,13 +72,9 @@ fn slots_behind<O: Order>(order: &O, entrants: &[Option<Entrant>; 16], i: Slot) 
 }
 
 // For each slot, the slots whose jobs its job goes ahead of.
-pub(crate) fn precedence<O: Order>(
-    order: &O,
-    tasks: &[Option<Task>; 16],
-    jobs: &[Option<Job>; 16],
-) -> [BitSet; 16]
-    ensures { Precedence (O.Order.means order.now) tasks.now jobs.now result }
+pub(crate) fn precedence<O: Order>(order: &O, board: &Board) -> [BitSet; 16]
+    ensures { Precedence (O.Order.means order.now) board.now.tasks board.now.jobs result }
 {
-    let entrants = entrants_of(tasks, jobs);
+    let entrants = entrants_of(board);
     Slot::map_all(|slot| slots_behind(order, &entrants, slot))
 }

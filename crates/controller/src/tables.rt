@@ -2,23 +2,20 @@
 ghost use Rattle.std.specs.Prelude.{◌≡◌, length};
 
 use bounds::Plan;
-use dispatch::job::Job;
+use dispatch::board::Board;
 use dispatch::spot::Spots;
-use task::Task;
 
 // The tables of a controller.
 #[derive(Drop)]
 pub struct Tables {
     // the cores, and by slot what its task asks of them
     pub(crate) plan: Plan,
-    pub(crate) tasks: [Option<Task>; 16],
-    // the open jobs
-    pub(crate) jobs: [Option<Job>; 16],
+    pub(crate) board: Board,
     // the ticks closed since the last release of the slot's task, as far as a longest period; none if it was never released
     pub(crate) waited: [Option<u32>; 16],
     // the bounds, while the tasks are admitted as they are
     pub(crate) bounds: Option<[u32; 16]>,
     // what each core runs, while a tick is open
     pub(crate) tick: Option<Spots>,
-    ghost sized: { (length tasks ≡ 16) × (length jobs ≡ 16) × (length waited ≡ 16) },
+    ghost sized: { (length board.tasks ≡ 16) × (length board.jobs ≡ 16) × (length waited ≡ 16) },
 }

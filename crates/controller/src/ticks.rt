@@ -12,9 +12,8 @@ use crate::checks::slot_exists;
 use crate::refusal::Refusal;
 use crate::tables::Tables;
 use bounds::{Passed, Plan, least_bounds};
-use dispatch::closing::{close, first_wrong};
+use dispatch::board::Board;
 use dispatch::job::Job;
-use dispatch::placing::place;
 use dispatch::spot::write_spots;
 use order::Order;
 use sets::bit_set::BitSet;
@@ -44,8 +43,7 @@ impl Tables {
         let plan = Plan::new(cores, [None; 16])?;
         Some(Tables {
             plan,
-            tasks: [None; 16],
-            jobs: [None; 16],
+            board: Board::new(),
             waited: [None; 16],
             bounds: None,
             tick: None,
@@ -71,9 +69,9 @@ impl Tables {
 
     // How many slots hold a task.
     fn tasks_held(&self) -> u8
-        ensures { result ≡ held_in self.now.tasks }
+        ensures { result ≡ held_in self.now.board.tasks }
     {
-        self.tasks.iter().filter(|task| task.is_some()).count() as u8
+        self.board.tasks.iter().filter(|task| task.is_some()).count() as u8
     }
 
     pub(crate) fn release(&mut self, slot: u8) -> Result<u32, Refusal>
@@ -85,7 +83,7 @@ impl Tables {
         let bounds = self.admitted()?;
         self.period_over(slot, task)?;
         self.earlier_ended(slot)?;
-        self.jobs[slot.index()] = Some(Job::new());
+        self.board.jobs[slot.index()] = Some(Job::new());
         self.waited[slot.index()] = Some(0);
         Ok(bounds[slot.index()])
     }
@@ -97,7 +95,7 @@ impl Tables {
         ensures { SpotsKept self.old ahead.now list.old result list.new self.new }
     {
         let cores = self.plan.cores;
-        let placing = place(&self.tasks, &self.jobs, ahead, cores);
+        let placing = self.board.place(ahead, cores);
         write_spots(&placing.spots, cores, list);
         self.tick = Some(placing.spots);
         placing.busy
@@ -113,10 +111,10 @@ impl Tables {
         if outcomes.len() != cores {
             return Err(Refusal::Outcomes { cores });
         }
-        if let Some(core) = first_wrong(&self.tasks, &self.jobs, &spots, outcomes) {
+        if let Some(core) = self.board.first_wrong(&spots, outcomes) {
             return Err(Refusal::Outcome { core });
         }
-        let ended = close(&self.tasks, &mut self.jobs, &spots, outcomes);
+        let ended = self.board.close(&spots, outcomes);
         wait_a_tick(&mut self.waited);
         self.tick = None;
         Ok(ended)

@@ -12,5 +12,5 @@ returns g c i l =
     let slot : Slot = record { number = i; in_range = l } in
     let made = c.map_all.ensures slot no_number in
     let behind : Marks (AheadAmong (g.O.Order.means order).goes c.entrants_of-entrants.result i) (row c.map_all.result i) = search rules in
-    row_marks (g.O.Order.means order) c.args.tasks.now c.args.jobs.now c.entrants_of-entrants.result c.entrants_of-entrants.ensures
+    row_marks (g.O.Order.means order) c.args.board.now.tasks c.args.board.now.jobs c.entrants_of-entrants.result c.entrants_of-entrants.ensures
     i l (row c.map_all.result i) behind

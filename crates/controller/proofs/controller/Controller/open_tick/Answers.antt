@@ -38,7 +38,7 @@ returns g c =
       (may.0, (may.1, tt)),
       record {
         spots = k.spots;
-        placed = placed_by_order o t.tasks t.jobs c.precedence-ahead.result (cores t) k.spots n c.precedence-ahead.ensures k.placed;
+        placed = placed_by_order o t.board.tasks t.board.jobs c.precedence-ahead.result (cores t) k.spots n c.precedence-ahead.ensures k.placed;
         told = k.told;
         ticking = k.ticking;
         same = record { same_plan = k.same.same_plan; same_held = k.same.same_held };

@@ -1,6 +1,5 @@
-use Rattle.std.proofs.Common.{length, refl, ap, ◌∙◌, inl, inr, arith}
+use Rattle.std.proofs.Common.{refl, inl, inr, arith}
 use Rattle.controller.proofs.Equal.{tables_equal}
-use Rattle.controller.proofs.Waiting.{as_many_wait}
 use Rattle.controller.proofs.tables.Tables.close_tick.Goals as goal
 
 pub returns-in-Some-first_wrong : goal.returns-in-Some-first_wrong
@@ -19,8 +18,3 @@ returns-in-Some-first_wrong c =
       );
       unchanged = tables_equal _ c.args.self.now refl refl refl refl refl refl;
     }
-
-pub invariant_of-self-2 : goal.invariant_of-self-2
-invariant_of-self-2 c = record {
-  sized = (c.args.self.now.sized.0, c.close-ended.ensures.sixteen, ap length c.wait_a_tick.ensures ∙ as_many_wait c.args.self.now.waited ∙ c.args.self.now.sized.2);
-}

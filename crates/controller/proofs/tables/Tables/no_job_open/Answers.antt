@@ -6,8 +6,8 @@ use Rattle.controller.proofs.tables.Tables.no_job_open.Goals as goal
 
 pub returns-then-any : goal.returns-then-any
 returns-then-any c = λ o. (
-  open_somewhere c.args.self.now.jobs c.args.self.now.sized.1 c.any.result c.if-any.true
-      (cases_from_any _ _ c.any.result (λ (x : Option Job). is_some x ≡ true) (λ (x : Option Job). is_some x ≡ false) c.any.ensures.ran (YieldsList-from_slice c.args.self.now.jobs cc)
+  open_somewhere c.args.self.now.board.jobs c.args.self.now.sized.1 c.any.result c.if-any.true
+      (cases_from_any _ _ c.any.result (λ (x : Option Job). is_some x ≡ true) (λ (x : Option Job). is_some x ≡ false) c.any.ensures.ran (YieldsList-from_slice c.args.self.now.board.jobs cc)
       (λ x q k. search rules) (λ x q k. search rules)),
   refl,
 )

@@ -70,7 +70,7 @@ returns c =
         bounds = c.in_ok-bounds.bounds;
         admitted = c.in_ok-bounds.ensures.1;
         told = ap (λ (k : ℕ). bound c.in_ok-bounds.bounds k) c.index-3.ensures.value;
-        opened = ap (λ (k : ℕ). set c.args.self.now.jobs k (Some c.new.result)) c.index.ensures.value ∙ ap (λ (x : Job). set c.args.self.now.jobs c.in_ok-slot.slot.number (Some x)) c.new.ensures;
+        opened = ap (λ (k : ℕ). set c.args.self.now.board.jobs k (Some c.new.result)) c.index.ensures.value ∙ ap (λ (x : Job). set c.args.self.now.board.jobs c.in_ok-slot.slot.number (Some x)) c.new.ensures;
         just_now = ap (λ (k : ℕ). set c.args.self.now.waited k (Some 0)) c.index-2.ensures.value;
         same = record { same_plan = refl; same_held = refl };
         same_bounds = refl;

@@ -5,11 +5,11 @@ use Rattle.controller.proofs.tables.Tables.tasks_held.Goals as goal
 
 pub overflow_cast-result : goal.overflow_cast-result
 overflow_cast-result c =
-    let counted : c.count.result ≡ count_by is_some c.args.self.now.tasks = search rules in
-    let few = held_few c.args.self.now.tasks in
-    omega (arith, counted, held_counted c.args.self.now.tasks, c.args.self.now.sized.0, few)
+    let counted : c.count.result ≡ count_by is_some c.args.self.now.board.tasks = search rules in
+    let few = held_few c.args.self.now.board.tasks in
+    omega (arith, counted, held_counted c.args.self.now.board.tasks, c.args.self.now.sized.0, few)
 
 pub returns : goal.returns
 returns c =
-    let counted : c.count.result ≡ count_by is_some c.args.self.now.tasks = search rules in
-    counted ∙ held_counted c.args.self.now.tasks
+    let counted : c.count.result ≡ count_by is_some c.args.self.now.board.tasks = search rules in
+    counted ∙ held_counted c.args.self.now.board.tasks
