@@ -14,22 +14,15 @@ pub fn demand_of(task: &Task) -> Demand
 {
     let timing = task.timing();
     let (longest, total) = length_and_total(task);
-    let Some(demand) = Demand::new(timing.period, timing.deadline, longest, total) else {
-        unreachable()
-    };
-    demand
+    Demand::new(timing.period, timing.deadline, longest, total).unwrap()
 }
 
 // Tasks that are the same ask for the same, and each for one thing only.
-pub fn same_tasks_ask_the_same() -> u8
+pub fn same_tasks_ask_the_same()
     ensures { SameTasksAskTheSame }
-{
-    0
-}
+{}
 
 // Plans of tasks that are the same, slot by slot, have the same answer under equal caps.
-pub fn same_tasks_same_bounds() -> u8
+pub fn same_tasks_same_bounds()
     ensures { SameTasksSameBounds }
-{
-    0
-}
+{}

@@ -1,9 +1,7 @@
 pub mod Rounding
 pub mod Sums
-pub mod Sizes
 pub mod Sides
 pub mod Rising
-pub mod Written
 pub mod Untouched
 pub mod Kept
 pub mod Pending

@@ -1,9 +1,10 @@
--- How many slots are pending.
-use Rattle.std.proofs.Common.{◌≡◌, ℕ, ◌/◌, ◌^◌, ◌<◌, ◌≤◌, ◌⊎◌, inl, inr, arith}
-use Rattle.sets.specs.Sets.{Has, Without}
+-- Which slots are pending, and how many.
+use Rattle.std.proofs.Common.{◌≡◌, ℕ, ◌/◌, ◌^◌, ◌<◌, ◌≤◌, ◌⊎◌, List, get_or, Some, None, Option, inl, inr, arith}
+use Rattle.sets.specs.Sets.{Has, Without, ◌∪◌}
 use Rattle.sets.specs.declared.bit_set.BitSet.{BitSet}
 use Rattle.sets.proofs.Bits.{bit, zero_or_one}
-use Rattle.bounds.specs.Steps.{count}
+use Rattle.sets.proofs.Unions.{in_left, in_right, in_either}
+use Rattle.bounds.specs.Steps.{count, Reopened}
 use Rattle.bounds.proofs.Sums.{sum_grows, sum_small}
 
 pub count_small : (s : BitSet) → count s ≤ 16
@@ -24,3 +25,13 @@ count_less s r k l h w =
     gone : (bit r.bits k ≡ 0) ⊎ (bit r.bits k ≡ 1) → bit r.bits k < bit s.bits k
     gone (inl e) = omega arith
     gone (inr e) = absurd (w.gone e)
+
+-- what is pending, and t, where t has each slot that the row does not cap at 0
+pub reopened_union : (s t : BitSet) (row : List (Option ℕ)) → ((k : ℕ) → Has t k → k < 16) → ((k : ℕ) → k < 16 → Has t k ⊎ (get_or row k None ≡ Some 0))
+    → Reopened s row (s ∪ t)
+reopened_union s t row small told =
+    record {
+      keeps = λ k h. in_left s t k h;
+      no_more = λ k h. elim (in_either s t k h) [ inl a ↦ inl a | inr b ↦ inr (small k b) ];
+      shut = λ k l out. elim (told k l) [ inl a ↦ absurd (out (in_right s t k a)) | inr e ↦ e ];
+    }

@@ -1,15 +1,15 @@
 -- The right side, slot by slot.
-use Rattle.std.proofs.Common.{◌≡◌, ℕ, ◌+◌, ◌<◌, ◌≤◌, List, get_or, Some, None, Option, sym, refl, ap, ◌∙◌, inl, inr, arith}
+use Rattle.std.proofs.Common.{◌≡◌, ℕ, ◌+◌, ◌<◌, ◌≤◌, Bool, List, Some, None, Option, sym, refl, ap, ◌∙◌, inl, inr, arith}
 use Rattle.std.proofs.lemmas.Bool.{cases_eq, cases_lt, ne_eqb, eq-eqb}
-use Rattle.std.proofs.lemmas.List.{get_or_default, get_or_past}
+use Rattle.std.proofs.lemmas.List.{get_or_past}
+use Rattle.std.specs.Option.{is_some}
+use Rattle.sets.specs.Tests.{Says}
+use Rattle.sets.proofs.Says.{says_yes, says_no}
 use Rattle.bounds.specs.declared.plan.Demand.{Demand}
 use Rattle.bounds.specs.declared.plan.Plan.{Plan}
 use Rattle.bounds.specs.Equation.{held, bound, share, share_apart, spread, side}
+use Rattle.bounds.specs.Steps.{Holds}
 use Rattle.bounds.proofs.Sums.{sum_same}
-
--- what was read at a place is what the slot holds
-pub held_at : (p : Plan) (i : ℕ) (o e : Option Demand) → i < 16 → get_or p.slots i o ≡ e → held p i ≡ e
-held_at p i o e l h = get_or_default p.slots i None o (omega arith) ∙ h
 
 pub held_past : (p : Plan) (i : ℕ) → 16 ≤ i → held p i ≡ None
 held_past p i l = get_or_past p.slots i None (omega arith)
@@ -42,3 +42,11 @@ module _ (cap also : ℕ → Demand → Option ℕ) (p : Plan) (R : List ℕ) (k
 
   pub side_same : (d : Demand) → side cap p R k d ≡ side also p R k d
   side_same d = ap (spread p.cores d.longest d.total) (sum_same 16 (share_apart cap p R k) (share_apart also p R k) share_same)
+
+-- the test tells whether the slot holds a task
+pub some_says : (p : Plan) (k : ℕ) (b : Bool) → k < 16 → b ≡ is_some (held p k) → Says b (Holds p k)
+some_says p k b l e = by (held p k) refl b e
+  where
+    by : (o : Option Demand) → held p k ≡ o → (b : Bool) → b ≡ is_some (held p k) → Says b (Holds p k)
+    by (Some d) h b e = says_yes b (e ∙ ap is_some h) (l, (d, h))
+    by None h b e = says_no b (e ∙ ap is_some h) (λ q. none_some (held p k) h q.1.1)

@@ -1,11 +1,10 @@
 -- What holds between the steps by which the bounds rise. Assumes nothing.
-use Rattle.std.specs.Prelude.{◌≡◌, ℕ, ◌/◌, ◌%◌, ◌^◌, ◌<◌, ◌≤◌, ◌⊎◌, List, [], length, Some, None, Option, ◌≢◌, slice_index_or}
+use Rattle.std.specs.Prelude.{◌≡◌, ℕ, ◌/◌, ◌%◌, ◌^◌, ◌<◌, ◌≤◌, ◌⊎◌, List, [], length, Some, None, Option, Ok, Err, Result, ◌≢◌, slice_index_or}
 use Rattle.sets.specs.Sets.{Has}
 use Rattle.sets.specs.declared.bit_set.BitSet.{BitSet}
 use Rattle.bounds.specs.declared.plan.Demand.{Demand}
 use Rattle.bounds.specs.declared.plan.Plan.{Plan}
-use Rattle.bounds.specs.declared.rise.Move.{Move}
-use Rattle.bounds.specs.declared.rise.Move.TheVariants.{Stays, Rises, Past}
+use Rattle.bounds.specs.declared.rise.Passed.{Passed}
 use Rattle.bounds.specs.Equation.{Caps, sum_to, held, bound, party_of, side, right_side, Reached}
 
 -- the slot holds a task
@@ -23,11 +22,11 @@ count s = sum_to 16 (λ k. s.bits / 2 ^ k % 2)
 abbrev pub SettledAt : Caps → Plan → List ℕ → ℕ → Type 0
 SettledAt most p R k = (d : Demand) → held p k ≡ Some d → right_side most p R k d ≤ bound R k
 
--- where the bound of slot k goes, with these caps on the others
-abbrev pub Moves : (ℕ → Demand → Option ℕ) → Plan → List ℕ → ℕ → Move → Type 0
-Moves cap p R k Stays = (d : Demand) → held p k ≡ Some d → side cap p R k d ≤ bound R k
-Moves cap p R k (Rises v) = (d : Demand) × (held p k ≡ Some d) × (v ≡ side cap p R k d) × (v ≤ d.deadline) × (bound R k < v)
-Moves cap p R k Past = (d : Demand) × (held p k ≡ Some d) × (d.deadline < side cap p R k d)
+-- where the bound of slot k goes, with these caps on the others: it stays, it rises, or it passes the deadline
+abbrev pub Moves : (ℕ → Demand → Option ℕ) → Plan → List ℕ → ℕ → Result (Option ℕ) Passed → Type 0
+Moves cap p R k (Ok None) = (d : Demand) → held p k ≡ Some d → side cap p R k d ≤ bound R k
+Moves cap p R k (Ok (Some v)) = (d : Demand) × (held p k ≡ Some d) × (v ≡ side cap p R k d) × (v ≤ d.deadline) × (bound R k < v)
+Moves cap p R k (Err e) = (d : Demand) × (held p k ≡ Some d) × (d.deadline < side cap p R k d) × (e.slot ≡ k)
 
 -- the row has the order's caps on the jobs of slot i ahead of those of each other task, at the bound b of slot i
 pub record CapsOf (most : Caps) (p : Plan) (i b : ℕ) (row : List (Option ℕ)) : Type 0 where

@@ -1,114 +1,101 @@
 // The least bounds, by raising one bound at a time.
-ghost use Rattle.std.specs.Prelude.{◌≡◌, ◌<◌};
-ghost use Rattle.sets.specs.Sets.{Marks};
-ghost use Rattle.bounds.specs.Equation.{first_bound_of, first_bounds_of, Told};
-ghost use Rattle.bounds.specs.Steps.{kept, Holds, Moves, Reopened};
+ghost use Rattle.std.specs.Prelude.{◌≡◌, [], slice_index_or, slice_set};
+ghost use Rattle.bounds.specs.Equation.{first_bounds_of, Told};
+ghost use Rattle.bounds.specs.Steps.{kept, Moves, Current, Reopened};
 
-use crate::caps::{CapRow, CapTable, all_caps, caps_of};
-use crate::equation::right_side;
-use crate::plan::{Demand, Plan};
-use order::Order;
+use crate::caps::{CapTable, all_caps, caps_of};
+use crate::plan::Plan;
+use order::{Order, Slot};
 use sets::bit_set::BitSet;
 
 // A slot whose bound passes its deadline.
-#[derive(Clone, Copy, Drop)]
+#[derive(Clone, Copy, Debug, PartialEq, Eq, Drop)]
 pub struct Passed {
     pub slot: usize,
 }
 
-// Where the bound of a slot goes.
+// A plan's bounds on their way up, and the caps at these bounds.
+// The plan is a copy: a struct with a reference beside an array of arrays gets no proof.
 #[derive(Drop)]
-pub(crate) enum Move {
-    Stays,
-    Rises(u32),
-    Past,
-}
-
-fn next_move(plan: &Plan, caps: &CapTable, bounds: &[u32; 16], k: usize) -> Move
-    requires { k < 16 }
-    ensures { Moves (kept caps.now k) plan.now bounds.now k result }
-{
-    let here = plan.slots[k];
-    let Some(d) = here else {
-        return Move::Stays;
-    };
-    let side = right_side(plan, caps, bounds, k, d);
-    if side > d.deadline as u64 {
-        return Move::Past;
-    }
-    if side <= bounds[k] as u64 {
-        return Move::Stays;
-    }
-    Move::Rises(side as u32)
-}
-
-fn first_bound(here: Option<Demand>) -> u32
-    ensures { result ≡ first_bound_of here }
-{
-    match here {
-        None => 0,
-        Some(_) => 1,
-    }
+pub(crate) struct Rise {
+    pub(crate) plan: Plan,
+    pub(crate) bounds: [u32; 16],
+    pub(crate) caps: CapTable,
 }
 
 // 1 for each task, 0 for each empty slot.
 fn first_bounds(plan: &Plan) -> [u32; 16]
     ensures { result ≡ first_bounds_of plan.now }
 {
-    let mut bounds = [0; 16];
-    for k in 0..16 {
-        let here = plan.slots[k];
-        bounds[k] = first_bound(here);
-    }
-    bounds
+    plan.slots.map(|task| u32::from(task.is_some()))
 }
 
-// The slots that hold a task.
-fn tasks_of(plan: &Plan) -> BitSet
-    ensures { Marks (Holds plan.now) result }
-{
-    let mut tasks = BitSet::EMPTY;
-    for k in 0..16 {
-        let here = plan.slots[k];
-        if let Some(_) = here {
-            tasks = tasks.with(k);
+impl Rise {
+    fn new<O: Order>(order: &O, plan: &Plan) -> Self
+        ensures plan { result.plan ≡ plan.now }
+        ensures bounds { result.bounds ≡ first_bounds_of plan.now }
+        ensures caps { Current (O.Order.means order.now).most plan.now result.bounds result.caps }
+    {
+        let bounds = first_bounds(plan);
+        Rise {
+            plan: *plan,
+            bounds,
+            caps: all_caps(order, plan, &bounds),
         }
     }
-    tasks
-}
 
-// The slots to look at again: these, and those that jobs may go ahead of by this row of caps.
-fn reopened(before: BitSet, row: &CapRow) -> BitSet
-    ensures { Reopened before row.now result }
-{
-    let mut slots = before;
-    for j in 0..16 {
-        if row[j] != Some(0) {
-            slots = slots.with(j);
+    // Where the bound of slot k rises to, if it does.
+    fn next_bound(&self, k: Slot) -> Result<Option<u32>, Passed>
+        ensures { Moves (kept self.now.caps k.number) self.now.plan self.now.bounds k.number result }
+    {
+        let Some(d) = self.plan.held(k) else {
+            return Ok(None);
+        };
+        let side = self.right_side(k, d);
+        if side > u64::from(d.deadline) {
+            return Err(Passed { slot: k.index() });
         }
+        if side <= self.bound(k) {
+            return Ok(None);
+        }
+        Ok(Some(side as u32))
     }
-    slots
+
+    // Raises the bound of slot k.
+    fn raise<O: Order>(&mut self, order: &O, k: Slot, bound: u32)
+        ensures plan { self.new.plan ≡ self.old.plan }
+        ensures bounds { self.new.bounds ≡ slice_set self.old.bounds k.number bound }
+        ensures caps { Current (O.Order.means order.now).most self.old.plan self.old.bounds self.old.caps → Current (O.Order.means order.now).most self.old.plan self.new.bounds self.new.caps }
+    {
+        self.caps[k.index()] = caps_of(order, &self.plan, k, bound);
+        self.bounds[k.index()] = bound;
+    }
+
+    // The slots to look at again after slot k rose: these, and those that its jobs may go ahead of.
+    fn reopened(&self, before: BitSet, k: Slot) -> BitSet
+        ensures { Reopened before (slice_index_or self.now.caps k.number []) result }
+    {
+        let row = &self.caps[k.index()];
+        before.union(BitSet::select(16, |j| row[j] != Some(0)))
+    }
 }
 
 // The least bounds that meet the equation and every deadline, if there are any.
 pub fn least_bounds<O: Order>(order: &O, plan: &Plan) -> Result<[u32; 16], Passed>
-    ensures { Told (O.Order.most order.now) plan.now result }
+    ensures { Told (O.Order.means order.now).most plan.now result }
 {
-    let mut bounds = first_bounds(plan);
-    let mut caps = all_caps(order, plan, &bounds);
+    let mut rise = Rise::new(order, plan);
     // the slots whose right side may be above their bound
-    let mut pending = tasks_of(plan);
+    let mut pending = plan.tasks();
     while let Some(k) = pending.least() {
-        match next_move(plan, &caps, &bounds, k) {
-            Move::Stays => pending = pending.without(k),
-            Move::Rises(bound) => {
-                let row = caps_of(order, plan, k, bound);
-                bounds[k] = bound;
-                caps[k] = row;
-                pending = reopened(pending, &row);
+        let slot = Slot::at(k);
+        match rise.next_bound(slot)? {
+            None => pending = pending.without(k),
+            Some(bound) => {
+                rise.raise(order, slot, bound);
+                pending = rise.reopened(pending, slot);
             }
-            Move::Past => return Err(Passed { slot: k }),
         }
     }
-    Ok(bounds)
+    Ok(rise.bounds)
 }

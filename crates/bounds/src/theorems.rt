@@ -3,22 +3,16 @@ ghost use Rattle.bounds.specs.Equation.{BoundsEnough, SameAnswer};
 ghost use Rattle.bounds.specs.Cases.{CasesRight};
 
 // Plans of the same numbers have the same answer under equal caps, and each has one at most.
-pub fn same_answer() -> u8
+pub fn same_answer()
     ensures { SameAnswer }
-{
-    0
-}
+{}
 
 // A solution leaves more core-ticks than are needed.
-pub fn bounds_enough() -> u8
+pub fn bounds_enough()
     ensures { BoundsEnough }
-{
-    0
-}
+{}
 
 // The worked plans have the answers told.
-pub fn cases_right() -> u8
+pub fn cases_right()
     ensures { CasesRight }
-{
-    0
-}
+{}

@@ -7,12 +7,12 @@ use Rattle.task.specs.Held.{nodes_of, arcs_of}
 use Rattle.task.proofs.Recovered.{lawful_task}
 use Rattle.bounds.specs.declared.plan.Demand.{Demand}
 use Rattle.bounds.specs.Equation.{bound, held}
-use Rattle.held_jobs.specs.Job.{JobEnded, Outcome, after}
-use Rattle.held_jobs.proofs.Ended.{t_job_ended}
-use Rattle.runs.specs.Jobs.{Turn}
-use Rattle.runs.specs.Run.{Done, Slot, idle, busy, State, turns_for, settle, work, tick, Run, ticked}
-use Rattle.runs.specs.Statements.{TimelySlot}
-use Rattle.runs.specs.System.{System}
+use Rattle.jobs.specs.Job.{JobEnded, Outcome, after}
+use Rattle.jobs.proofs.Ended.{t_job_ended}
+use Rattle.timing.specs.Jobs.{Turn}
+use Rattle.timing.specs.Run.{Done, Slot, idle, busy, State, turns_for, settle, work, tick, Run, ticked}
+use Rattle.timing.specs.Statements.{TimelySlot}
+use Rattle.timing.specs.System.{System}
 use Rattle.response.specs.Jobs.{JobState, outcome_in, advance}
 use Rattle.response.proofs.Laws.{true_ended, ended_true}
 use Rattle.response.proofs.Turns.{after_same}
@@ -24,7 +24,8 @@ use Rattle.controller.specs.declared.tables.Tables.{Tables}
 use Rattle.controller.specs.Book.{Entry, ToldTask, HoldsTold, Line, EndedInTime, one_seen, bit_is_set, entered}
 use Rattle.controller.specs.Calls.{CloseTick}
 use Rattle.controller.specs.Effects.{one_more, TickClosed}
-use Rattle.controller.specs.State.{Meaning, cores, table_in, task_in, job_in, waited_in}
+use Rattle.order.specs.Laws.{Meaning}
+use Rattle.controller.specs.State.{cores, table_in, task_in, job_in, waited_in}
 use Rattle.controller.proofs.Cores.{turns_bring}
 use Rattle.controller.proofs.Editing.{some_not_none}
 use Rattle.controller.proofs.Epoch.{table_or, tables_of, system, Since, SameJob, SameSlot, Parts, parts, Running, Resting, EpochBy, Epoch, PlacedBy, Sound}
@@ -119,7 +120,7 @@ module _ (o : Meaning) (laws : LawfulOrder o) (t u : Tables) (b : ℕ → Line) 
     abbrev next : State (system o t.plan t.tasks R)
     next = tick y (tick_places o laws t b sound R running spots n placed outcomes as_many right) σ
 
-    goes_on : Run y (Rattle.runs.specs.Run.start y) next
+    goes_on : Run y (Rattle.timing.specs.Run.start y) next
     goes_on = ticked (tick_places o laws t b sound R running spots n placed outcomes as_many right) running.run
         (may_tick_lem o laws t b sound R running spots n placed outcomes as_many right)
 

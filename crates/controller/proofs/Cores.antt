@@ -3,10 +3,10 @@ use Rattle.std.proofs.Common.{◌≡◌, ℕ, zero, suc, ◌+◌, ◌<◌, ◌�
 use Rattle.std.proofs.lemmas.Bool.{cases_eq}
 use Rattle.std.proofs.lemmas.Bool.Decides.{nat_tests}
 use Rattle.std.specs.List.{AllByRecursion}
-use Rattle.held_jobs.specs.Job.{Outcome}
-use Rattle.runs.specs.Counts.{bit}
-use Rattle.runs.specs.Jobs.{Turn}
-use Rattle.runs.specs.Run.{Place, turns_for, places_of}
+use Rattle.jobs.specs.Job.{Outcome}
+use Rattle.timing.specs.Counts.{bit}
+use Rattle.timing.specs.Jobs.{Turn}
+use Rattle.timing.specs.Run.{Place, turns_for, places_of}
 use Rattle.response.specs.Jobs.{outcome_in}
 use Rattle.dispatch.specs.declared.spot.Spot.{Spot}
 use Rattle.dispatch.specs.Closing.{meant, byte_at, is_spot, outcome_below}

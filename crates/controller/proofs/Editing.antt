@@ -9,7 +9,7 @@ use Rattle.task.specs.declared.held.Task.{Task}
 use Rattle.bounds.specs.declared.plan.Demand.{Demand}
 use Rattle.bounds.specs.Equation.{bound, held}
 use Rattle.admission.specs.Same.{SlotDemands}
-use Rattle.runs.specs.Run.{Slot, idle, busy}
+use Rattle.timing.specs.Run.{Slot, idle, busy}
 use Rattle.response.specs.Jobs.{JobState}
 use Rattle.dispatch.specs.declared.job.Job.{Job}
 use Rattle.dispatch.specs.Tables.{job_at}
@@ -18,8 +18,8 @@ use Rattle.controller.specs.Book.{ToldTask, HoldsTold, Line, EndedInTime, entere
 use Rattle.controller.specs.Calls.{Add, Remove, Retime}
 use Rattle.controller.specs.Effects.{Edited, Put, Added, Removed, Retimed}
 use Rattle.controller.specs.Promise.{Exact, AsTold}
-use Rattle.controller.specs.State.{Meaning, table_of, task_in, period, deadline, NoneOpen}
-use Rattle.controller.specs.Steps.{period_at}
+use Rattle.order.specs.Laws.{Meaning}
+use Rattle.controller.specs.State.{table_of, task_in, period, deadline, NoneOpen}
 use Rattle.controller.proofs.Deadlines.{deadline_is_told}
 use Rattle.controller.proofs.Epoch.{SameSlot, Parts, parts, waited_at, EpochBy, Sound}
 
@@ -170,16 +170,6 @@ not_a_time x n = elim (cases_lt 65535 x) [
   | inl l ↦ inr l
   | inr l ↦ elim (cases_lt 0 x) [ inl m ↦ absurd (n m l) | inr m ↦ inl (omega arith) ]
 ]
-
--- what has a period is a task
-pub record WithPeriod (x : Option Task) (T : ℕ) : Type 0 where
-  pub task : Task
-  pub held : x ≡ Some task
-  pub long : period task ≡ T
-
-pub task_with_period : (x : Option Task) (T : ℕ) → period_at x ≡ Some T → WithPeriod x T
-task_with_period None T e = absurd (some_not_none e refl)
-task_with_period (Some τ) T e = record { task = τ; held = refl; long = one_some refl e }
 
 pub not_some : {X : Type 0} (o : Option X) → false ≡ is_some o → o ≡ None
 not_some None e = refl

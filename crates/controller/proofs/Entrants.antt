@@ -10,7 +10,8 @@ use Rattle.dispatch.specs.Tables.{task_at, job_at, Places}
 use Rattle.dispatch.proofs.Alike.{placed_alike}
 use Rattle.controller.specs.declared.precedence.Entrant.{Entrant}
 use Rattle.controller.specs.Ahead.{AheadAmong}
-use Rattle.controller.specs.State.{Meaning, party, GoesAhead}
+use Rattle.order.specs.Laws.{Meaning}
+use Rattle.controller.specs.State.{party, GoesAhead}
 use Rattle.controller.specs.Steps.{entrant, EntrantsAre, Precedence}
 use Rattle.controller.proofs.Epoch.{PlacedBy}
 

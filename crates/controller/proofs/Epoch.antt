@@ -7,8 +7,8 @@ use Rattle.task.specs.declared.held.Task.{Task}
 use Rattle.bounds.specs.declared.plan.Demand.{Demand}
 use Rattle.bounds.specs.declared.plan.Plan.{Plan}
 use Rattle.bounds.specs.Equation.{bound, held, Solves}
-use Rattle.runs.specs.System.{System}
-use Rattle.runs.specs.Run.{Done, Slot, idle, busy, State, start, Run}
+use Rattle.timing.specs.System.{System}
+use Rattle.timing.specs.Run.{Done, Slot, idle, busy, State, start, Run}
 use Rattle.response.specs.Jobs.{JobState}
 use Rattle.response.specs.System.{system_of}
 use Rattle.dispatch.specs.declared.job.Job.{Job}
@@ -18,7 +18,8 @@ use Rattle.dispatch.specs.Tables.{task_at, job_at, ReadyIn, KeptIn}
 use Rattle.controller.specs.declared.tables.Tables.{Tables}
 use Rattle.controller.specs.Book.{Entry, Line, EndedInTime}
 use Rattle.controller.specs.Promise.{Exact, AsTold}
-use Rattle.controller.specs.State.{Meaning, cores, task_in, deadline, GoesAhead}
+use Rattle.order.specs.Laws.{Meaning}
+use Rattle.controller.specs.State.{cores, task_in, deadline, GoesAhead}
 
 -- the table of a slot; what it is where the slot is empty does not matter
 abbrev pub table_or : Option Task → Table

@@ -10,7 +10,8 @@ use Rattle.controller.specs.Book.{Line, entered, book}
 use Rattle.controller.specs.Calls.{Call, Add, Remove, Retime, Admit, Release, OpenTick, CloseTick, Share, Answer, Event}
 use Rattle.controller.specs.Does.{Does, Opened, History, opened, called}
 use Rattle.controller.specs.Promise.{Kept}
-use Rattle.controller.specs.State.{Meaning, table_of}
+use Rattle.order.specs.Laws.{Meaning}
+use Rattle.controller.specs.State.{table_of}
 use Rattle.controller.proofs.Closing.{closed_sound}
 use Rattle.controller.proofs.Editing.{added_sound, removed_sound, retimed_sound, some_not_none}
 use Rattle.controller.proofs.Epoch.{parts, EpochBy, Sound}

@@ -10,9 +10,9 @@ use Rattle.bounds.specs.declared.plan.Plan.{Plan}
 use Rattle.bounds.specs.Equation.{bound, held, Solves}
 use Rattle.admission.specs.Demands.{Demands}
 use Rattle.admission.specs.Same.{SlotDemands}
-use Rattle.runs.specs.System.{Held}
-use Rattle.runs.specs.Run.{Slot, idle, busy, State, start, Run}
-use Rattle.runs.specs.Statements.{Timely, TimelySlot}
+use Rattle.timing.specs.System.{Held}
+use Rattle.timing.specs.Run.{Slot, idle, busy, State, start, Run}
+use Rattle.timing.specs.Statements.{Timely, TimelySlot}
 use Rattle.response.specs.Jobs.{JobState}
 use Rattle.response.specs.Statements.{Planned}
 use Rattle.response.specs.System.{there}
@@ -21,7 +21,8 @@ use Rattle.dispatch.specs.declared.job.Job.{Job}
 use Rattle.dispatch.specs.Tables.{task_at, job_at}
 use Rattle.controller.specs.declared.tables.Tables.{Tables}
 use Rattle.controller.specs.Book.{Entry, Line, OpenInTime, InTime}
-use Rattle.controller.specs.State.{Meaning, table_of}
+use Rattle.order.specs.Laws.{Meaning}
+use Rattle.controller.specs.State.{table_of}
 use Rattle.controller.proofs.Epoch.{table_or, tables_of, system, SameSlot, parts, waited_at, EpochBy, Sound}
 
 -- the order keeps its laws

@@ -1,3 +1,4 @@
+pub mod Deciding
 pub mod Cores
 pub mod Epoch
 pub mod InTime

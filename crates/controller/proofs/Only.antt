@@ -3,7 +3,7 @@ use Rattle.std.proofs.Common.{◌≡◌, ℕ, ◌-◌, ◌<◌, ◌≤◌, Bool,
 use Rattle.std.proofs.lemmas.List.{ext_get_or}
 use Rattle.std.proofs.lemmas.Bool.{cases_lt}
 use Rattle.sets.specs.Tests.{FailsFirst, Says}
-use Rattle.held_jobs.specs.Sharing.{MayShare}
+use Rattle.jobs.specs.Sharing.{MayShare}
 use Rattle.task.specs.declared.held.Refusal.{Refusal as TableRefusal}
 use Rattle.task.specs.declared.held.Task.{Task}
 use Rattle.task.specs.Described.{Told}
@@ -27,7 +27,8 @@ use Rattle.controller.specs.Calls.{Call, Add, Remove, Retime, Admit, Release, Op
 use Rattle.controller.specs.Checks.{Check, slot_exists, no_tick_open, no_job_open, slot_free, table_lawful, slot_held, node_exists, time_in_range, room_for_bounds, room_for_cores, bounds_exist, admitted, period_over, earlier_ended, tick_open, outcome_for_each_core, outcomes_allowed, checks, Passes, Fails, AllPass, TurnedAway}
 use Rattle.controller.specs.Does.{Does}
 use Rattle.controller.specs.Effects.{Edited, Added, Removed, Retimed, Admitted, Released, TickOpened, TickClosed, Shared}
-use Rattle.controller.specs.State.{Meaning, cores, period, GoesAhead}
+use Rattle.order.specs.Laws.{Meaning}
+use Rattle.controller.specs.State.{cores, period, GoesAhead}
 use Rattle.controller.proofs.Editing.{one_some, some_not_none}
 use Rattle.controller.proofs.Equal.{task_equal, demand_equal, plan_equal, tables_equal}
 

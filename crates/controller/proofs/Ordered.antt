@@ -8,7 +8,8 @@ use Rattle.task.proofs.Recovered.{lawful_task}
 use Rattle.dispatch.specs.declared.job.Job.{Job}
 use Rattle.dispatch.specs.Placing.{HasReady, Orderly}
 use Rattle.dispatch.specs.Tables.{ReadyIn}
-use Rattle.controller.specs.State.{Meaning, party, GoesFirst, GoesAhead}
+use Rattle.order.specs.Laws.{Meaning}
+use Rattle.controller.specs.State.{party, GoesFirst, GoesAhead}
 use Rattle.controller.proofs.Editing.{one_some}
 use Rattle.controller.proofs.InTime.{LawfulOrder}
 

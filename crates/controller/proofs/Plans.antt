@@ -13,7 +13,8 @@ use Rattle.controller.specs.Calls.{Admit, Answer}
 use Rattle.controller.specs.Checks.{checks, TurnedAway}
 use Rattle.controller.specs.Does.{Does}
 use Rattle.controller.specs.Promise.{Exact, SameMeaning, EqualPlans, EqualAnswers}
-use Rattle.controller.specs.State.{Meaning, table_of, table_in, held_in, NoneOpen}
+use Rattle.order.specs.Laws.{Meaning}
+use Rattle.controller.specs.State.{table_of, table_in, held_in, NoneOpen}
 use Rattle.controller.proofs.Editing.{some_not_none, one_some}
 use Rattle.controller.proofs.Histories.{history_sound}
 use Rattle.controller.proofs.InTime.{LawfulOrder}

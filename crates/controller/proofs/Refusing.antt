@@ -4,7 +4,7 @@ use Rattle.controller.specs.declared.refusal.Refusal.{Refusal}
 use Rattle.controller.specs.declared.tables.Tables.{Tables}
 use Rattle.controller.specs.Does.{AddDoes, RemoveDoes, RetimeDoes, ReleaseDoes, CloseDoes}
 use Rattle.controller.specs.Promise.{OnRefusal}
-use Rattle.controller.specs.State.{Meaning}
+use Rattle.order.specs.Laws.{Meaning}
 
 pub on_refusal : {A : Type 0} (r : Result A Refusal) {P Q : Type 0} → (P → Q) → OnRefusal r P → OnRefusal r Q
 on_refusal (Ok a) f h = tt

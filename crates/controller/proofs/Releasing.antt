@@ -8,20 +8,21 @@ use Rattle.bounds.specs.declared.plan.Plan.{Plan}
 use Rattle.bounds.specs.Equation.{bound, held}
 use Rattle.admission.specs.Demands.{Demands}
 use Rattle.admission.specs.Same.{SlotDemands}
-use Rattle.runs.specs.Run.{Done, Slot, idle, busy, start, begun, released, Spaced, MayRelease, begin, release}
-use Rattle.runs.specs.System.{System}
+use Rattle.timing.specs.Run.{Done, Slot, idle, busy, start, begun, released, Spaced, MayRelease, begin, release}
+use Rattle.timing.specs.System.{System}
 use Rattle.response.specs.Jobs.{JobState}
 use Rattle.response.specs.System.{number, there}
 use Rattle.dispatch.specs.declared.job.Job.{Job}
 use Rattle.dispatch.specs.declared.spot.Spot.{Spot}
 use Rattle.dispatch.specs.Tables.{task_at, job_at, new_job}
-use Rattle.held_jobs.specs.Job.{released as untouched}
+use Rattle.jobs.specs.Job.{released as untouched}
 use Rattle.controller.specs.declared.tables.Tables.{Tables}
 use Rattle.controller.specs.Book.{Entry, ToldTask, HoldsTold, Line, EndedInTime, entered, on_release}
 use Rattle.controller.specs.Calls.{Release}
 use Rattle.controller.specs.Effects.{SameTasks, Admitted, Released, TickOpened}
 use Rattle.controller.specs.Promise.{Exact, AsTold}
-use Rattle.controller.specs.State.{Meaning, cores, table_of, table_in, task_in, job_in, waited_in, period, deadline, NoneOpen}
+use Rattle.order.specs.Laws.{Meaning}
+use Rattle.controller.specs.State.{cores, table_of, table_in, task_in, job_in, waited_in, period, deadline, NoneOpen}
 use Rattle.controller.proofs.Editing.{one_some, some_not_none, here_not, here_same, no_entries, at_new, at_other}
 use Rattle.controller.proofs.Epoch.{system, Since, SameSlot, Parts, parts, waited_at, EpochBy, Epoch, PlacedBy, Sound}
 
@@ -146,7 +147,7 @@ module _ (o : Meaning) (t u : Tables) (b : ℕ → Line) (sound : Sound o t b) (
   -- the slot of the new job
   new_slot : (x : Slot JobState) (entries : List Entry) (c : Bool) → c ≡ true → entries ≡ (b s).unended → SlotThere s x
       → SameSlot t.plan s (bound R s) (b s).deadline running.state.now
-      (cond c (begin running.state.now (record { states = untouched; ran = λ v. 0 }) x) x)
+      (cond c (begin running.state.now (record { states = untouched 64; ran = λ v. 0 }) x) x)
       (Some new_job) (Some 0) (record { seen = 0; told = told; due = (b s).deadline } ∷ entries)
   new_slot x entries false c e m = absurd (let z : ◌≡◌ {A = ℕ} 0 1 = cc in omega arith)
   new_slot (busy r spent j past) entries true c e m = absurd (some_not_none m.0.there ended)
@@ -187,7 +188,7 @@ module _ (o : Meaning) (t u : Tables) (b : ℕ → Line) (sound : Sound o t b) (
       (sym (at_other t.waited (set t.waited s (Some 0)) s (Some 0) None refl k n))
       (subst (λ (x : Line). SameSlot t.plan k (bound R k) x.deadline running.state.now ((release y s running.state).slot k) (job_in t k) (waited_in t k) x.unended)
       (sym (ap (λ (x : Bool). cond x (on_release (Ok told) (b k)) (b k)) (here_not k s n)))
-      (subst (λ (x : Bool). SlotThere k (cond x (begin running.state.now (record { states = untouched; ran = λ v. 0 }) (running.state.slot k)) (running.state.slot k)))
+      (subst (λ (x : Bool). SlotThere k (cond x (begin running.state.now (record { states = untouched 64; ran = λ v. 0 }) (running.state.slot k)) (running.state.slot k)))
       (sym (here_not s k (λ e. n (sym e)))) (running.slots k m))))
 
   continues : Epoch o released_parts b'

@@ -6,12 +6,12 @@ use Rattle.task.proofs.Recovered.{lawful_task}
 use Rattle.workload.proofs.Tasks.{task_ranged}
 use Rattle.bounds.specs.declared.plan.Demand.{Demand}
 use Rattle.bounds.specs.Equation.{bound, held}
-use Rattle.held_jobs.specs.declared.node_state.NodeState.{NodeState}
-use Rattle.held_jobs.specs.Job.{Ready, Reached}
-use Rattle.held_jobs.specs.Sharing.{MayShare}
-use Rattle.held_jobs.proofs.Share.{ready_may_share_holds_lem}
-use Rattle.runs.specs.Run.{busy}
-use Rattle.runs.proofs.Invariant.{SoundSlot, run_sound}
+use Rattle.jobs.specs.declared.node_state.NodeState.{NodeState}
+use Rattle.jobs.specs.Job.{Ready, Reached}
+use Rattle.jobs.specs.Sharing.{MayShare}
+use Rattle.jobs.proofs.Share.{ready_may_share_holds_lem}
+use Rattle.timing.specs.Run.{busy}
+use Rattle.timing.proofs.Invariant.{SoundSlot, run_sound}
 use Rattle.response.specs.Jobs.{JobState, graph_jobs}
 use Rattle.response.proofs.InTime.{plan_bounded, jobs_sound}
 use Rattle.dispatch.specs.declared.job.Job.{Job}
@@ -23,7 +23,8 @@ use Rattle.controller.specs.declared.tables.Tables.{Tables}
 use Rattle.controller.specs.Book.{Line, book}
 use Rattle.controller.specs.Does.{ShareDoes}
 use Rattle.controller.specs.Promise.{ApartAfterNo}
-use Rattle.controller.specs.State.{Meaning, cores, job_in, waited_in, GoesAhead}
+use Rattle.order.specs.Laws.{Meaning}
+use Rattle.controller.specs.State.{cores, job_in, waited_in, GoesAhead}
 use Rattle.controller.proofs.Editing.{one_some, some_not_none}
 use Rattle.controller.proofs.Epoch.{table_or, tables_of, system, parts, Running, EpochBy, Sound}
 use Rattle.controller.proofs.Histories.{history_sound}
@@ -48,11 +49,11 @@ module _ (o : Meaning) (laws : LawfulOrder o) (t : Tables) (b : ℕ → Line) (s
           let reached : SoundSlot (graph_jobs (nodes_of (tables_of t.tasks s)) (arcs_of (tables_of t.tasks s))) (running.state.slot s) =
           run_sound (system o t.plan t.tasks R) (plan_bounded o.goes o.most t.plan R (tables_of t.tasks) p) (jobs_sound o.goes o.most t.plan R (tables_of t.tasks) p)
           running.state running.run s (one.slot_below, is_there t.plan s d asks) in
-          let here : Reached (nodes_of (tables_of t.tasks s)) (arcs_of (tables_of t.tasks s)) k.states k.ran =
+          let here : Reached 64 (nodes_of (tables_of t.tasks s)) (arcs_of (tables_of t.tasks s)) k.states k.ran =
           subst (SoundSlot (graph_jobs (nodes_of (tables_of t.tasks s)) (arcs_of (tables_of t.tasks s)))) at reached in
           let lawful = lawful_task one.task.table one.task.lawful in
-          ready_may_share_holds_lem (task_nodes one.task) (task_arcs one.task) k.states k.ran (task_ranged one.task.table lawful) lawful.shaped
-          (subst (λ (x : Option Task). Reached (nodes_of (table_or x)) (arcs_of (table_or x)) k.states k.ran) one.its_task here)
+          ready_may_share_holds_lem 64 (task_nodes one.task) (task_arcs one.task) k.states k.ran (task_ranged one.task.table lawful) lawful.shaped
+          (subst (λ (x : Option Task). Reached 64 (nodes_of (table_or x)) (arcs_of (table_or x)) k.states k.ran) one.its_task here)
           v w apart
           (subst (λ (x : List NodeState). Ready (task_nodes one.task) (task_arcs one.task) x v) same one.ready)
           (subst (λ (x : List NodeState). Ready (task_nodes one.task) (task_arcs one.task) x w) same

@@ -12,11 +12,11 @@ use Rattle.task.specs.Graph.{role, time, HasBranch}
 use Rattle.task.specs.Held.{nodes_of, arcs_of}
 use Rattle.bounds.specs.declared.plan.Demand.{Demand}
 use Rattle.bounds.specs.Equation.{bound, held}
-use Rattle.held_jobs.specs.declared.node_state.NodeState.{NodeState}
-use Rattle.held_jobs.specs.Job.{state, ticks, Ready, Outcome, idle as not_run, goes_on, ends_with, Allowed}
-use Rattle.runs.specs.Jobs.{MayHave}
-use Rattle.runs.specs.Run.{Slot, idle, busy, State, Place, places_of, ReadyAt, MayHaveAt, OpenAt, GoesAhead as RunAhead, MayTick}
-use Rattle.runs.specs.System.{System}
+use Rattle.jobs.specs.declared.node_state.NodeState.{NodeState}
+use Rattle.jobs.specs.Job.{state, ticks, Ready, Outcome, idle as not_run, goes_on, ends_with, Allowed}
+use Rattle.timing.specs.Jobs.{MayHave}
+use Rattle.timing.specs.Run.{Slot, idle, busy, State, Place, places_of, ReadyAt, MayHaveAt, OpenAt, GoesAhead as RunAhead, MayTick}
+use Rattle.timing.specs.System.{System}
 use Rattle.response.specs.Jobs.{JobState, outcome_in, graph_jobs}
 use Rattle.response.specs.System.{party_at}
 use Rattle.dispatch.specs.declared.job.Job.{Job}
@@ -28,7 +28,8 @@ use Rattle.dispatch.specs.Tables.{task_nodes, task_arcs, ReadyIn, KeptIn}
 use Rattle.dispatch.proofs.Facts.{places_once, conserving}
 use Rattle.controller.specs.declared.tables.Tables.{Tables}
 use Rattle.controller.specs.Book.{Entry, Line}
-use Rattle.controller.specs.State.{Meaning, cores, task_in, job_in, waited_in, party, deadline, GoesFirst, GoesAhead}
+use Rattle.order.specs.Laws.{Meaning}
+use Rattle.controller.specs.State.{cores, task_in, job_in, waited_in, party, deadline, GoesFirst, GoesAhead}
 use Rattle.controller.proofs.Cores.{place_of, places, each_place, few_places, all_places, no_place, one_place}
 use Rattle.controller.proofs.Editing.{one_some, some_not_none}
 use Rattle.controller.proofs.Epoch.{table_or, system, SameJob, SameSlot, parts, Running, PlacedBy, Sound}

@@ -1,5 +1,5 @@
 -- The checks of a call, in sequence, and what it is turned away with by the first that fails. Assumes nothing.
-use Rattle.std.specs.Prelude.{◌≡◌, ℕ, ◌-◌, ◌<◌, ◌≤◌, ◌≢◌, ◌⊎◌, List, [], ◌∷◌, length, Some, None, Ok, Err, Option}
+use Rattle.std.specs.Prelude.{◌≡◌, ℕ, ◌-◌, ◌<◌, ◌≤◌, ◌≢◌, ◌⊎◌, List, [], ◌∷◌, length, Some, None, Ok, Err, Option, Result}
 use Rattle.sets.specs.Tests.{FailsFirst}
 use Rattle.table.specs.declared.records.Table.{Table as Records}
 use Rattle.task.specs.declared.held.Refusal.{Refusal as TableRefusal}
@@ -13,7 +13,8 @@ use Rattle.controller.specs.declared.refusal.Refusal.{Refusal}
 use Rattle.controller.specs.declared.refusal.Refusal.TheVariants.{NoSlot, JobOpen, Occupied, Table, Time, Empty, NoNode, NoBounds, ShortList, TickOpen, NotAdmitted, TooSoon, StillOpen, NoTick, Outcomes, Outcome}
 use Rattle.controller.specs.declared.tables.Tables.{Tables}
 use Rattle.controller.specs.Calls.{Call, Add, Remove, Retime, Admit, Release, OpenTick, CloseTick, Share}
-use Rattle.controller.specs.State.{Meaning, cores, task_in, job_in, waited_in, period, HoldsTask, HasJob, Ticking, SomeOpen, NoneOpen}
+use Rattle.order.specs.Laws.{Meaning}
+use Rattle.controller.specs.State.{cores, task_in, job_in, waited_in, period, HoldsTask, HasJob, Ticking, SomeOpen, NoneOpen}
 
 pub data Check : Type 0 where
   slot_exists : (slot : ℕ) → Check
@@ -106,6 +107,16 @@ Passes o t tick_open = (spots : List (Option Spot)) × Ticking t spots
 Passes o t (outcome_for_each_core outcomes) = length outcomes ≡ cores t
 Passes o t (outcomes_allowed outcomes) =
     (spots : List (Option Spot)) → Ticking t spots → AllRight t.tasks t.jobs spots outcomes
+
+-- what a check answers: it passes, or turns the call away
+abbrev pub Decided : Tables → Check → Result (Unit {0}) Refusal → Type 0
+Decided t k (Ok _) = (o : Meaning) → Passes o t k
+Decided t k (Err e) = (o : Meaning) → Fails o t k e
+
+-- the same of a check that finds something when it passes
+abbrev pub Checked : {A : Type 0} → Tables → Check → (A → Type 0) → Result A Refusal → Type 0
+Checked t k Found (Ok a) = ((o : Meaning) → Passes o t k) × Found a
+Checked t k Found (Err e) = (o : Meaning) → Fails o t k e
 
 -- every check passes
 abbrev pub AllPass : Meaning → Tables → List Check → Type 0

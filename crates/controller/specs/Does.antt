@@ -5,7 +5,7 @@ use Rattle.controller.specs.declared.tables.Tables.{Tables}
 use Rattle.controller.specs.Calls.{Call, Add, Remove, Retime, Admit, Release, OpenTick, CloseTick, Share, Answer, Event}
 use Rattle.controller.specs.Checks.{checks, AllPass, TurnedAway}
 use Rattle.controller.specs.Effects.{Added, Removed, Retimed, Admitted, Released, TickOpened, TickClosed, Shared}
-use Rattle.controller.specs.State.{Meaning}
+use Rattle.order.specs.Laws.{Meaning}
 
 -- turned away by the first check that fails, and then nothing has changed
 pub record Refused (o : Meaning) (t : Tables) (c : Call) (e : Refusal) (u : Tables) : Type 0 where

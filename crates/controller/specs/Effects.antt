@@ -10,11 +10,12 @@ use Rattle.dispatch.specs.declared.spot.Spot.{Spot}
 use Rattle.dispatch.specs.Placing.{Placed}
 use Rattle.dispatch.specs.Spots.{Written}
 use Rattle.dispatch.specs.Tables.{new_job, task_nodes, task_arcs, ReadyIn, KeptIn}
-use Rattle.held_jobs.specs.Sharing.{MayShare}
+use Rattle.jobs.specs.Sharing.{MayShare}
 use Rattle.sets.specs.Tests.{Says}
 use Rattle.dispatch.specs.Closing.{Closed}
 use Rattle.controller.specs.declared.tables.Tables.{Tables}
-use Rattle.controller.specs.State.{Meaning, cores, task_in, Ticking, GoesAhead, held_in}
+use Rattle.order.specs.Laws.{Meaning}
+use Rattle.controller.specs.State.{cores, task_in, Ticking, GoesAhead, held_in}
 
 -- one tick more since a release, as far as a longest period
 abbrev pub one_more : Option ℕ → Option ℕ

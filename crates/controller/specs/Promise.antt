@@ -9,7 +9,8 @@ use Rattle.controller.specs.declared.tables.Tables.{Tables}
 use Rattle.controller.specs.Book.{Line, HoldsTold, book, InTime}
 use Rattle.controller.specs.Calls.{Call, Admit, Answer, Event}
 use Rattle.controller.specs.Does.{Does, History}
-use Rattle.controller.specs.State.{Meaning, cores, table_in, task_in, Ticking, NoneOpen}
+use Rattle.order.specs.Laws.{Meaning}
+use Rattle.controller.specs.State.{cores, table_in, task_in, Ticking, NoneOpen}
 
 -- whatever calls led to these tables: with this call and its answer, every job is in time
 abbrev pub KeepsTime : Meaning → Tables → (c : Call) → Answer c → Type 0

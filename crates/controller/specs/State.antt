@@ -3,18 +3,11 @@ use Rattle.std.specs.Prelude.{◌≡◌, ℕ, suc, ◌<◌, Bool, true, ◌⊎�
 use Rattle.table.specs.declared.records.Table.{Table}
 use Rattle.task.specs.declared.held.Task.{Task}
 use Rattle.order.specs.declared.Party.{Party}
+use Rattle.order.specs.Laws.{Meaning}
 use Rattle.dispatch.specs.declared.job.Job.{Job}
 use Rattle.dispatch.specs.declared.spot.Spot.{Spot}
 use Rattle.dispatch.specs.Tables.{task_at, job_at}
 use Rattle.controller.specs.declared.tables.Tables.{Tables}
-
--- what an order means: who goes ahead of whom, and how many at most
-pub record Meaning : Type 0 where
-  pub goes : Party → Party → ℤ → Bool
-  pub most : Party → Party → ℕ → Option ℕ
-
-abbrev pub meaning : (Party → Party → ℤ → Bool) → (Party → Party → ℕ → Option ℕ) → Meaning
-meaning goes most = record { goes = goes; most = most }
 
 abbrev pub cores : Tables → ℕ
 cores t = t.plan.cores

@@ -10,16 +10,8 @@ use Rattle.dispatch.specs.Tables.{task_at, job_at, row, Places}
 use Rattle.controller.specs.declared.precedence.Entrant.{Entrant}
 use Rattle.controller.specs.declared.tables.Tables.{Tables}
 use Rattle.controller.specs.Effects.{SameTasks}
-use Rattle.controller.specs.State.{Meaning, cores, party, period, held_in, Ticking, GoesAhead}
-
-abbrev pub period_at : Option Task → Option ℕ
-period_at None = None
-period_at (Some τ) = Some (period τ)
-
--- the ticks to go where less than a period has been waited
-abbrev pub ToGo : Option ℕ → ℕ → Option ℕ → Type 0
-ToGo waited T (Some n) = (w : ℕ) × (waited ≡ Some w) × (w < T) × (n ≡ T - w)
-ToGo waited T None = (w : ℕ) → waited ≡ Some w → T ≤ w
+use Rattle.order.specs.Laws.{Meaning}
+use Rattle.controller.specs.State.{cores, party, period, held_in, Ticking, GoesAhead}
 
 -- the bounds are kept and told
 pub record BoundsKept (t : Tables) (bounds list : List ℕ) (n : ℕ) (after : List ℕ) (u : Tables) : Type 0 where

@@ -1,66 +1,54 @@
-// The checks that several calls share.
-ghost use Rattle.std.specs.Prelude.{◌≡◌, ℕ, ◌<◌, ◌≤◌, List, [], ◌∷◌, length, None, Ok, Err};
-ghost use Rattle.sets.specs.Tests.{Says};
-ghost use Rattle.controller.specs.Checks.{Check, TurnedAway, slot_exists, no_tick_open, no_job_open, room_for_bounds, room_for_cores, bounds_exist};
-ghost use Rattle.controller.specs.State.{Meaning, cores, HoldsTask, HasJob, SomeOpen, NoneOpen};
+// The checks of calls: each passes, or turns the call away under its refusal.
+ghost use Rattle.std.specs.Prelude.{◌≡◌, ℕ, ◌≤◌, List, [], ◌∷◌, length, Some, None, Ok, Err};
+ghost use Rattle.controller.specs.Checks.{Check, Checked, Decided, TurnedAway, slot_exists as slot_is_one, no_tick_open, no_job_open, slot_free, slot_held, admitted, period_over, earlier_ended, room_for_bounds, room_for_cores, bounds_exist};
+ghost use Rattle.controller.specs.declared.refusal.Refusal.TheVariants.{NoSlot};
+ghost use Rattle.order.specs.Laws.{Meaning};
+ghost use Rattle.controller.specs.State.{cores, task_in, NoneOpen};
 
 use crate::refusal::Refusal;
 use crate::tables::Tables;
-use dispatch::job::Job;
+use order::Slot;
 use task::Task;
 
-// Whether a slot has an open job.
-pub(crate) fn is_open(jobs: &[Option<Job>; 16], slot: usize) -> bool
-    requires { slot < 16 }
-    ensures { Says result (HasJob jobs.now slot) }
+// The slot of that number.
+pub(crate) fn slot_exists(number: u8) -> Result<Slot, Refusal>
+    ensures { elim result [ Ok s ↦ s.number ≡ number | Err e ↦ (16 ≤ number) × (e ≡ NoSlot) ] }
 {
-    match &jobs[slot] {
-        Some(_) => true,
-        None => false,
-    }
-}
-
-// Whether some job is open.
-fn some_open(jobs: &[Option<Job>; 16]) -> bool
-    ensures { Says result (SomeOpen jobs.now) }
-{
-    for slot in 0..16 {
-        if is_open(jobs, slot) {
-            return true;
-        }
-    }
-    false
-}
-
-// Whether a slot holds a task.
-pub(crate) fn is_held(tasks: &[Option<Task>; 16], slot: usize) -> bool
-    requires { slot < 16 }
-    ensures { Says result (HoldsTask tasks.now slot) }
-{
-    match &tasks[slot] {
-        Some(_) => true,
-        None => false,
-    }
+    Slot::new(number).ok_or(Refusal::NoSlot)
 }
 
 impl Tables {
-    // The slot's place, where it exists, and no tick and no job is open.
-    pub(crate) fn may_edit(&self, slot: u8) -> Result<usize, Refusal>
-        ensures { elim result [
-          | Ok s ↦ (s ≡ slot) × (slot < 16) × (self.now.tick ≡ None) × NoneOpen self.now.jobs
-          | Err e ↦ ((o : Meaning) (rest : List Check) → TurnedAway o self.now (slot_exists slot ∷ no_tick_open ∷ no_job_open ∷ rest) e)
-        ] }
+    // No tick is open.
+    pub(crate) fn no_tick_open(&self) -> Result<(), Refusal>
+        ensures { Decided self.now no_tick_open result }
     {
-        if slot >= 16 {
-            return Err(Refusal::NoSlot);
+        match self.tick {
+            None => Ok(()),
+            Some(_) => Err(Refusal::TickOpen),
         }
-        if self.tick.is_some() {
-            return Err(Refusal::TickOpen);
-        }
-        if some_open(&self.jobs) {
+    }
+
+    // No job is open.
+    fn no_job_open(&self) -> Result<(), Refusal>
+        ensures { Decided self.now no_job_open result }
+    {
+        if self.jobs.iter().any(|job| job.is_some()) {
             return Err(Refusal::JobOpen);
         }
-        Ok(slot as usize)
+        Ok(())
+    }
+
+    // The slot of that number, where it exists, and no tick and no job is open.
+    pub(crate) fn may_edit(&self, slot: u8) -> Result<Slot, Refusal>
+        ensures { elim result [
+          | Ok s ↦ (s.number ≡ slot) × (self.now.tick ≡ None) × NoneOpen self.now.jobs
+          | Err e ↦ ((o : Meaning) (rest : List Check) → TurnedAway o self.now (slot_is_one slot ∷ no_tick_open ∷ no_job_open ∷ rest) e)
+        ] }
+    {
+        let slot = slot_exists(slot)?;
+        self.no_tick_open()?;
+        self.no_job_open()?;
+        Ok(slot)
     }
 
     // Whether the tasks may be admitted, into a list of bounds.
@@ -70,12 +58,8 @@ impl Tables {
           | Err e ↦ ((o : Meaning) → TurnedAway o self.now (no_tick_open ∷ no_job_open ∷ room_for_bounds list.now ∷ bounds_exist ∷ []) e)
         ] }
     {
-        if self.tick.is_some() {
-            return Err(Refusal::TickOpen);
-        }
-        if some_open(&self.jobs) {
-            return Err(Refusal::JobOpen);
-        }
+        self.no_tick_open()?;
+        self.no_job_open()?;
         if list.len() < 16 {
             return Err(Refusal::ShortList { needed: 16 });
         }
@@ -89,13 +73,60 @@ impl Tables {
           | Err e ↦ ((o : Meaning) → TurnedAway o self.now (no_tick_open ∷ room_for_cores list.now ∷ []) e)
         ] }
     {
-        if self.tick.is_some() {
-            return Err(Refusal::TickOpen);
-        }
-        let needed = self.plan.cores as usize;
+        self.no_tick_open()?;
+        let needed = usize::from(self.plan.cores);
         if list.len() < needed {
             return Err(Refusal::ShortList { needed });
         }
         Ok(())
+    }
+
+    // The slot holds no task.
+    pub(crate) fn slot_free(&self, slot: Slot) -> Result<(), Refusal>
+        ensures { Decided self.now (slot_free slot.number) result }
+    {
+        match self.tasks[slot.index()] {
+            None => Ok(()),
+            Some(_) => Err(Refusal::Occupied),
+        }
+    }
+
+    // The task that the slot holds.
+    pub(crate) fn slot_held(&self, slot: Slot) -> Result<&Task, Refusal>
+        ensures { Checked self.now (slot_held slot.number) (λ τ. task_in self.now slot.number ≡ Some τ.now) result }
+    {
+        self.tasks[slot.index()].as_ref().ok_or(Refusal::Empty)
+    }
+
+    // The bounds of the tasks as they are, where they have been admitted.
+    pub(crate) fn admitted(&self) -> Result<[u32; 16], Refusal>
+        ensures { Checked self.now admitted (λ bounds. self.now.bounds ≡ Some bounds) result }
+    {
+        self.bounds.ok_or(Refusal::NotAdmitted)
+    }
+
+    // The slot's task was never released, or a period ago.
+    pub(crate) fn period_over(&self, slot: Slot, task: &Task) -> Result<(), Refusal>
+        requires { task_in self.now slot.number ≡ Some task.now }
+        ensures { Decided self.now (period_over slot.number) result }
+    {
+        let period = task.timing().period;
+        let waited = self.waited[slot.index()];
+        match waited {
+            Some(ticks) if ticks < period => Err(Refusal::TooSoon {
+                to_go: period - ticks,
+            }),
+            _ => Ok(()),
+        }
+    }
+
+    // The slot has no open job.
+    pub(crate) fn earlier_ended(&self, slot: Slot) -> Result<(), Refusal>
+        ensures { Decided self.now (earlier_ended slot.number) result }
+    {
+        match self.jobs[slot.index()] {
+            None => Ok(()),
+            Some(_) => Err(Refusal::StillOpen),
+        }
     }
 }

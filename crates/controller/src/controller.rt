@@ -4,7 +4,6 @@ ghost use Rattle.std.specs.Prelude.{◌≡◌, ◌≤◌, [], Ok, Err};
 ghost use Rattle.controller.specs.Calls.{Add, Remove, Retime, Admit, Release, OpenTick, CloseTick};
 ghost use Rattle.controller.specs.Does.{Opened, History};
 ghost use Rattle.controller.specs.Promise.{Kept, EqualAnswers, OnRefusal};
-ghost use Rattle.controller.specs.State.{meaning};
 ghost use Rattle.controller.specs.declared.refusal.Refusal.TheVariants.{Cores};
 
 use crate::precedence::precedence;
@@ -23,19 +22,17 @@ impl<O: Order + Drop> Controller<O> {
     // A controller with so many cores, 1 to 16, and no task.
     pub fn open(cores: u8, order: O) -> Result<Controller<O>, Refusal>
         ensures opened { elim result [ Ok c ↦ (c.order ≡ order) × Opened cores c.tables | Err e ↦ (e ≡ Cores) × (1 ≤ cores → cores ≤ 16 → ⊥) ] }
-        ensures begins { elim result [ Ok c ↦ History (meaning (O.Order.goes order) (O.Order.most order)) [] c.tables | Err e ↦ Unit {0} ] }
+        ensures begins { elim result [ Ok c ↦ History (O.Order.means order) [] c.tables | Err e ↦ Unit {0} ] }
     {
-        match Tables::new(cores) {
-            Some(tables) => Ok(Controller { order, tables }),
-            None => Err(Refusal::Cores),
-        }
+        let tables = Tables::new(cores).ok_or(Refusal::Cores)?;
+        Ok(Controller { order, tables })
     }
 }
 
 impl<O: Order> Controller<O> {
     // Puts the task that the table describes into an empty slot, and answers its L and W.
     pub fn add(&mut self, slot: u8, table: &[u8]) -> Result<(u64, u64), Refusal>
-        ensures kept { Kept (meaning (O.Order.goes self.old.order) (O.Order.most self.old.order)) self.old.tables (Add slot table.now) result self.new.tables }
+        ensures kept { Kept (O.Order.means self.old.order) self.old.tables (Add slot table.now) result self.new.tables }
         ensures same { self.new.order ≡ self.old.order }
         ensures refused { OnRefusal result (self.new ≡ self.old) }
     {
@@ -44,7 +41,7 @@ impl<O: Order> Controller<O> {
 
     // Empties a slot.
     pub fn remove(&mut self, slot: u8) -> Result<(), Refusal>
-        ensures kept { Kept (meaning (O.Order.goes self.old.order) (O.Order.most self.old.order)) self.old.tables (Remove slot) result self.new.tables }
+        ensures kept { Kept (O.Order.means self.old.order) self.old.tables (Remove slot) result self.new.tables }
         ensures same { self.new.order ≡ self.old.order }
         ensures refused { OnRefusal result (self.new ≡ self.old) }
     {
@@ -53,7 +50,7 @@ impl<O: Order> Controller<O> {
 
     // Gives a node another time, and answers the task's L and W.
     pub fn retime(&mut self, slot: u8, node: u8, time: u32) -> Result<(u64, u64), Refusal>
-        ensures kept { Kept (meaning (O.Order.goes self.old.order) (O.Order.most self.old.order)) self.old.tables (Retime slot node time) result self.new.tables }
+        ensures kept { Kept (O.Order.means self.old.order) self.old.tables (Retime slot node time) result self.new.tables }
         ensures same { self.new.order ≡ self.old.order }
         ensures refused { OnRefusal result (self.new ≡ self.old) }
     {
@@ -62,23 +59,19 @@ impl<O: Order> Controller<O> {
 
     // Admits the tasks: writes their least bounds by slot, 0 for an empty slot, and answers how many tasks there are.
     pub fn admit(&mut self, list: &mut [u32]) -> Result<u8, Refusal>
-        ensures kept { Kept (meaning (O.Order.goes self.old.order) (O.Order.most self.old.order)) self.old.tables (Admit list.old) (result, list.new) self.new.tables }
-        ensures equal { EqualAnswers (meaning (O.Order.goes self.old.order) (O.Order.most self.old.order)) self.old.tables list.old (result, list.new) }
+        ensures kept { Kept (O.Order.means self.old.order) self.old.tables (Admit list.old) (result, list.new) self.new.tables }
+        ensures equal { EqualAnswers (O.Order.means self.old.order) self.old.tables list.old (result, list.new) }
         ensures same { self.new.order ≡ self.old.order }
         ensures refused { OnRefusal result ((self.new ≡ self.old) × (list.new ≡ list.old)) }
     {
-        if let Err(refusal) = self.tables.may_admit(list) {
-            return Err(refusal);
-        }
-        match self.tables.bounds_under(&self.order) {
-            Ok(bounds) => Ok(self.tables.keep_bounds(bounds, list)),
-            Err(_) => Err(Refusal::NoBounds),
-        }
+        self.tables.may_admit(list)?;
+        let bounds = self.tables.bounds_under(&self.order)?;
+        Ok(self.tables.keep_bounds(bounds, list))
     }
 
     // Opens a job of the slot's task, and answers its bound.
     pub fn release(&mut self, slot: u8) -> Result<u32, Refusal>
-        ensures kept { Kept (meaning (O.Order.goes self.old.order) (O.Order.most self.old.order)) self.old.tables (Release slot) result self.new.tables }
+        ensures kept { Kept (O.Order.means self.old.order) self.old.tables (Release slot) result self.new.tables }
         ensures same { self.new.order ≡ self.old.order }
         ensures refused { OnRefusal result (self.new ≡ self.old) }
     {
@@ -87,20 +80,18 @@ impl<O: Order> Controller<O> {
 
     // Opens a tick: writes what each core runs, and answers how many are busy.
     pub fn open_tick(&mut self, list: &mut [u16]) -> Result<u8, Refusal>
-        ensures kept { Kept (meaning (O.Order.goes self.old.order) (O.Order.most self.old.order)) self.old.tables (OpenTick list.old) (result, list.new) self.new.tables }
+        ensures kept { Kept (O.Order.means self.old.order) self.old.tables (OpenTick list.old) (result, list.new) self.new.tables }
         ensures same { self.new.order ≡ self.old.order }
         ensures refused { OnRefusal result ((self.new ≡ self.old) × (list.new ≡ list.old)) }
     {
-        if let Err(refusal) = self.tables.may_tick(list) {
-            return Err(refusal);
-        }
+        self.tables.may_tick(list)?;
         let ahead = precedence(&self.order, &self.tables.tasks, &self.tables.jobs);
         Ok(self.tables.keep_spots(&ahead, list))
     }
 
     // Closes the tick with an outcome byte for each core, and answers the slots whose jobs ended, slot s as bit s.
     pub fn close_tick(&mut self, outcomes: &[u8]) -> Result<u16, Refusal>
-        ensures kept { Kept (meaning (O.Order.goes self.old.order) (O.Order.most self.old.order)) self.old.tables (CloseTick outcomes.now) result self.new.tables }
+        ensures kept { Kept (O.Order.means self.old.order) self.old.tables (CloseTick outcomes.now) result self.new.tables }
         ensures same { self.new.order ≡ self.old.order }
         ensures refused { OnRefusal result (self.new ≡ self.old) }
     {

@@ -1,7 +1,9 @@
 // Why a call is turned away.
 ghost use Rattle.std.specs.Prelude.{◌≡◌};
+ghost use Rattle.controller.specs.declared.refusal.Refusal.TheVariants.{Table, NoBounds};
 ghost use Rattle.controller.specs.Refusals.{refusal_number, refusal_added};
 
+use bounds::Passed;
 use task::Refusal as TableRefusal;
 
 #[derive(Clone, Copy, Drop)]
@@ -40,6 +42,23 @@ pub enum Refusal {
     Outcomes { cores: usize },
     // the outcome on this core, the first such, is not allowed
     Outcome { core: usize },
+}
+
+impl From<TableRefusal> for Refusal {
+    ghost from_gives = { λ told refusal. refusal ≡ Table told };
+
+    fn from(refusal: TableRefusal) -> Refusal {
+        Refusal::Table(refusal)
+    }
+}
+
+impl From<Passed> for Refusal {
+    ghost from_gives = { λ _ refusal. refusal ≡ NoBounds };
+
+    // No bounds keep every deadline: that is told of all slots, not of the one that passed its own.
+    fn from(_passed: Passed) -> Refusal {
+        Refusal::NoBounds
+    }
 }
 
 impl Refusal {

@@ -4,10 +4,11 @@ ghost use Rattle.bounds.specs.Equation.{Told};
 ghost use Rattle.dispatch.specs.Tables.{task_at};
 ghost use Rattle.controller.specs.Does.{Opened, ReleaseDoes, CloseDoes};
 ghost use Rattle.controller.specs.Effects.{one_more};
-ghost use Rattle.controller.specs.Steps.{BoundsKept, SpotsKept, period_at, ToGo};
-ghost use Rattle.controller.specs.State.{Meaning, held_in};
+ghost use Rattle.controller.specs.Steps.{BoundsKept, SpotsKept};
+ghost use Rattle.order.specs.Laws.{Meaning};
+ghost use Rattle.controller.specs.State.{held_in};
 
-use crate::checks::is_open;
+use crate::checks::slot_exists;
 use crate::refusal::Refusal;
 use crate::tables::Tables;
 use bounds::{Passed, Plan, least_bounds};
@@ -17,63 +18,22 @@ use dispatch::placing::place;
 use dispatch::spot::write_spots;
 use order::Order;
 use sets::bit_set::BitSet;
-use task::Task;
 
 // The longest period that a task may have, in ticks.
 const LONGEST_PERIOD: u32 = 1_000_000;
-
-// How many slots hold a task.
-fn tasks_held(tasks: &[Option<Task>; 16]) -> u8
-    ensures { result ≡ held_in tasks.now }
-{
-    let mut held = 0;
-    for task in tasks {
-        if let Some(_) = task {
-            held += 1;
-        }
-    }
-    held
-}
-
-// The period of the task in a slot.
-fn period_of(tasks: &[Option<Task>; 16], slot: usize) -> Option<u32>
-    requires { slot < 16 }
-    ensures { result ≡ period_at (task_at tasks.now slot) }
-{
-    match &tasks[slot] {
-        Some(task) => Some(task.timing().period),
-        None => None,
-    }
-}
-
-// The ticks to go until a period is over, where some are.
-fn ticks_to_go(waited: Option<u32>, period: u32) -> Option<u32>
-    ensures { ToGo waited period result }
-{
-    match waited {
-        Some(ticks) if ticks < period => Some(period - ticks),
-        _ => None,
-    }
-}
 
 // One tick more, as far as a longest period.
 fn wait_longer(waited: Option<u32>) -> Option<u32>
     ensures { result ≡ one_more waited }
 {
-    match waited {
-        Some(ticks) if ticks < LONGEST_PERIOD => Some(ticks + 1),
-        Some(_) => Some(LONGEST_PERIOD),
-        None => None,
-    }
+    waited.map(|ticks| ticks.saturating_add(1).min(LONGEST_PERIOD))
 }
 
 // One tick more since each release.
 fn wait_a_tick(waited: &mut [Option<u32>; 16])
     ensures { waited.new ≡ map one_more waited.old }
 {
-    for slot in 0..16 {
-        waited[slot] = wait_longer(waited[slot]);
-    }
+    *waited = waited.map(wait_longer);
 }
 
 impl Tables {
@@ -81,22 +41,20 @@ impl Tables {
     pub(crate) fn new(cores: u8) -> Option<Tables>
         ensures { elim result [ Some t ↦ Opened cores t | None ↦ (1 ≤ cores → cores ≤ 16 → ⊥) ] }
     {
-        match Plan::new(cores, [None; 16]) {
-            Some(plan) => Some(Tables {
-                plan,
-                tasks: [None; 16],
-                jobs: [None; 16],
-                waited: [None; 16],
-                bounds: None,
-                tick: None,
-            }),
-            None => None,
-        }
+        let plan = Plan::new(cores, [None; 16])?;
+        Some(Tables {
+            plan,
+            tasks: [None; 16],
+            jobs: [None; 16],
+            waited: [None; 16],
+            bounds: None,
+            tick: None,
+        })
     }
 
     // The least bounds of the tasks under an order, or a slot that passes its deadline.
     pub(crate) fn bounds_under<O: Order>(&self, order: &O) -> Result<[u32; 16], Passed>
-        ensures { Told (O.Order.most order.now) self.now.plan result }
+        ensures { Told (O.Order.means order.now).most self.now.plan result }
     {
         least_bounds(order, &self.plan)
     }
@@ -106,38 +64,30 @@ impl Tables {
         requires { 16 ≤ length list.old }
         ensures { BoundsKept self.old bounds list.old result list.new self.new }
     {
-        for slot in 0..16 {
-            list[slot] = bounds[slot];
-        }
+        list[..16].copy_from_slice(&bounds);
         self.bounds = Some(bounds);
-        tasks_held(&self.tasks)
+        self.tasks_held()
+    }
+
+    // How many slots hold a task.
+    fn tasks_held(&self) -> u8
+        ensures { result ≡ held_in self.now.tasks }
+    {
+        self.tasks.iter().filter(|task| task.is_some()).count() as u8
     }
 
     pub(crate) fn release(&mut self, slot: u8) -> Result<u32, Refusal>
         ensures { (o : Meaning) → ReleaseDoes o self.old slot result self.new }
     {
-        if slot >= 16 {
-            return Err(Refusal::NoSlot);
-        }
-        let at = slot as usize;
-        if self.tick.is_some() {
-            return Err(Refusal::TickOpen);
-        }
-        let Some(period) = period_of(&self.tasks, at) else {
-            return Err(Refusal::Empty);
-        };
-        let Some(bounds) = self.bounds else {
-            return Err(Refusal::NotAdmitted);
-        };
-        if let Some(to_go) = ticks_to_go(self.waited[at], period) {
-            return Err(Refusal::TooSoon { to_go });
-        }
-        if is_open(&self.jobs, at) {
-            return Err(Refusal::StillOpen);
-        }
-        self.jobs[at] = Some(Job::new());
-        self.waited[at] = Some(0);
-        Ok(bounds[at])
+        let slot = slot_exists(slot)?;
+        self.no_tick_open()?;
+        let task = self.slot_held(slot)?;
+        let bounds = self.admitted()?;
+        self.period_over(slot, task)?;
+        self.earlier_ended(slot)?;
+        self.jobs[slot.index()] = Some(Job::new());
+        self.waited[slot.index()] = Some(0);
+        Ok(bounds[slot.index()])
     }
 
     // Places the nodes that come first, where row i of `ahead` has the slots whose jobs the job of slot i goes ahead of,
@@ -159,7 +109,7 @@ impl Tables {
         let Some(spots) = self.tick else {
             return Err(Refusal::NoTick);
         };
-        let cores = self.plan.cores as usize;
+        let cores = usize::from(self.plan.cores);
         if outcomes.len() != cores {
             return Err(Refusal::Outcomes { cores });
         }

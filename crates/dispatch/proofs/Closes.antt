@@ -1,7 +1,7 @@
 -- An outcome that fits a node's role, time, branches and state is right for it.
 use Rattle.std.proofs.Common.{◌≡◌, ℕ, List, Some, None, Option, sym, subst, MatchOption}
-use Rattle.held_jobs.specs.declared.node_state.NodeState.{NodeState}
-use Rattle.held_jobs.specs.Job.{state, Outcome, next}
+use Rattle.jobs.specs.declared.node_state.NodeState.{NodeState}
+use Rattle.jobs.specs.Job.{state, Outcome, next}
 use Rattle.sets.specs.declared.bit_set.BitSet.{BitSet}
 use Rattle.sets.specs.Sets.{Marks}
 use Rattle.table.specs.declared.records.Node.{Node}

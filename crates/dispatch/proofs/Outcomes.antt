@@ -2,10 +2,10 @@
 use Rattle.std.proofs.Common.{◌≡◌, ℕ, zero, suc, ◌+◌, ◌<◌, Bool, true, false, cond, eqb, ◌⊎◌, List, [], ◌∷◌, length, set, Some, None, Option, sym, refl, ap, ◌∙◌, subst, ap₂, inl, inr, add-one, arith}
 use Rattle.std.proofs.lemmas.List.{ext_get_or, length-set, get_or-set_same, get_or-set_other}
 use Rattle.std.proofs.lemmas.Bool.{cases_eq, cases_Bool, and_parts, and_from, eq-eqb, eqb-true, cond-true, cond-false}
-use Rattle.held_jobs.specs.declared.node_state.NodeState.{NodeState}
-use Rattle.held_jobs.specs.declared.node_state.NodeState.TheVariants.{Untouched}
-use Rattle.held_jobs.specs.Job.{state, Outcome, idle, next, after}
-use Rattle.held_jobs.proofs.Tick.{length_after}
+use Rattle.jobs.specs.declared.node_state.NodeState.{NodeState}
+use Rattle.jobs.specs.declared.node_state.NodeState.TheVariants.{Untouched}
+use Rattle.jobs.specs.Job.{state, Outcome, idle, next, after}
+use Rattle.jobs.proofs.Tick.{length_after}
 use Rattle.sets.specs.declared.bit_set.BitSet.{BitSet}
 use Rattle.sets.specs.Sets.{With}
 use Rattle.sets.proofs.Marked.{gather_none, gather_skip, gather_more}

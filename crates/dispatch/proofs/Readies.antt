@@ -1,9 +1,9 @@
 -- The ready nodes of a job, from those under way and those that may start.
 use Rattle.std.proofs.Common.{◌≡◌, ℕ, ◌+◌, ◌<◌, ◌⊎◌, List, length, sym, refl, subst, inl, inr, arith}
 use Rattle.std.proofs.lemmas.Bool.{cases_eq}
-use Rattle.held_jobs.specs.declared.node_state.NodeState.{NodeState}
-use Rattle.held_jobs.specs.Job.{state, HasEnded, Taken, Ready}
-use Rattle.held_jobs.proofs.Entering.{ended_or_not}
+use Rattle.jobs.specs.declared.node_state.NodeState.{NodeState}
+use Rattle.jobs.specs.Job.{state, HasEnded, Taken, Ready}
+use Rattle.jobs.proofs.Entering.{ended_or_not}
 use Rattle.sets.specs.declared.bit_set.BitSet.{BitSet}
 use Rattle.sets.specs.Sets.{Has, Without, Marks}
 use Rattle.table.specs.declared.records.Arc.{Arc}

@@ -1,7 +1,7 @@
 -- Right outcomes of a placed tick are allowed.
 use Rattle.std.proofs.Common.{◌≡◌, ℕ, ◌≢◌, ◌⊎◌, List, length, Some, Option, sym, ◌∙◌, subst, inl, inr}
-use Rattle.held_jobs.specs.Job.{Outcome, idle, Ready, Allowed}
-use Rattle.held_jobs.proofs.Tick.{goes_on_not_idle, ends_not_idle}
+use Rattle.jobs.specs.Job.{Outcome, idle, Ready, Allowed}
+use Rattle.jobs.proofs.Tick.{goes_on_not_idle, ends_not_idle}
 use Rattle.task.specs.declared.held.Task.{Task}
 use Rattle.dispatch.specs.declared.job.Job.{Job}
 use Rattle.dispatch.specs.declared.spot.Spot.{Spot}

@@ -1,7 +1,7 @@
 -- What the outcomes of a tick bring: what each node had, when an outcome is right, and what is left of the open jobs. Assumes nothing.
 use Rattle.std.specs.Prelude.{◌≡◌, ℕ, zero, suc, ◌+◌, ◌-◌, ◌/◌, ◌%◌, ◌^◌, ◌<◌, min, Bool, false, cond, ◌&&◌, ◌≢◌, ◌⊎◌, List, length, Some, None, Option, ◌==◌, slice_index}
-use Rattle.held_jobs.specs.declared.node_state.NodeState.{NodeState}
-use Rattle.held_jobs.specs.Job.{state, ticks, HasEnded, JobEnded, Outcome, idle, goes_on, ends_with, after}
+use Rattle.jobs.specs.declared.node_state.NodeState.{NodeState}
+use Rattle.jobs.specs.Job.{state, ticks, HasEnded, JobEnded, Outcome, idle, goes_on, ends_with, after}
 use Rattle.sets.specs.Sets.{Marks}
 use Rattle.table.specs.declared.records.Node.{Node}
 use Rattle.table.specs.declared.records.Role.TheVariants.{Opening}

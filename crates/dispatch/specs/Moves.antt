@@ -1,7 +1,7 @@
 -- How a job is moved by a tick: words for the parts of closing.
 use Rattle.std.specs.Prelude.{◌≡◌, ℕ, suc, ◌<◌, ◌≢◌, List, length, Some, None, Option}
-use Rattle.held_jobs.specs.declared.node_state.NodeState.{NodeState}
-use Rattle.held_jobs.specs.Job.{state, ticks, IsEnded, JobEnded, Outcome, goes_on, ends_with, next, after}
+use Rattle.jobs.specs.declared.node_state.NodeState.{NodeState}
+use Rattle.jobs.specs.Job.{state, ticks, IsEnded, JobEnded, Outcome, goes_on, ends_with, next, after}
 use Rattle.sets.specs.declared.bit_set.BitSet.{BitSet}
 use Rattle.sets.specs.Sets.{Has, Marks}
 use Rattle.table.specs.declared.records.Node.{Node}

@@ -1,7 +1,7 @@
 -- How the ready nodes and the next node are looked for: words for the parts of the search.
 use Rattle.std.specs.Prelude.{◌≡◌, ℕ, ◌<◌, List, Some, None, Option}
-use Rattle.held_jobs.specs.declared.node_state.NodeState.{NodeState}
-use Rattle.held_jobs.specs.Job.{HasEnded, Taken, Ready}
+use Rattle.jobs.specs.declared.node_state.NodeState.{NodeState}
+use Rattle.jobs.specs.Job.{HasEnded, Taken, Ready}
 use Rattle.sets.specs.declared.bit_set.BitSet.{BitSet}
 use Rattle.sets.specs.Sets.{Has, Least}
 use Rattle.table.specs.declared.records.Arc.{Arc}

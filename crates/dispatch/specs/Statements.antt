@@ -1,6 +1,6 @@
 -- What is proved of placing and of closing.
 use Rattle.std.specs.Prelude.{◌≡◌, ℕ, List, Some, Option}
-use Rattle.held_jobs.specs.Job.{Allowed}
+use Rattle.jobs.specs.Job.{Allowed}
 use Rattle.sets.specs.declared.bit_set.BitSet.{BitSet}
 use Rattle.task.specs.declared.held.Task.{Task}
 use Rattle.dispatch.specs.declared.job.Job.{Job}

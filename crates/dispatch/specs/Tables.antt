@@ -1,6 +1,6 @@
 -- The tasks and the open jobs by slot, and what they say of a node: that it is ready, that it was kept, and whose job goes ahead.
 use Rattle.std.specs.Prelude.{◌≡◌, ℕ, ◌<◌, List, Some, None, Option, slice_index_or}
-use Rattle.held_jobs.specs.Job.{Ready, released}
+use Rattle.jobs.specs.Job.{Ready, released}
 use Rattle.sets.specs.declared.bit_set.BitSet.{BitSet}
 use Rattle.sets.specs.Sets.{Has}
 use Rattle.table.specs.declared.records.Arc.{Arc}
@@ -17,7 +17,7 @@ no_number = record { bits = 0 }
 
 -- a job at its release
 abbrev pub new_job : Job
-new_job = record { states = released; placed = no_number; age = 0 }
+new_job = record { states = released 64; placed = no_number; age = 0 }
 
 -- the task in slot s, and its open job
 abbrev pub task_at : List (Option Task) → ℕ → Option Task

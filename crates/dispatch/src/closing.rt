@@ -1,6 +1,6 @@
 // What the outcomes of a tick bring to the open jobs.
 ghost use Rattle.std.specs.Prelude.{◌≡◌, ℕ, ◌<◌, ◌≤◌, length, Some, None, MatchOption, ◌≢◌};
-ghost use Rattle.held_jobs.specs.Job.{JobEnded, next};
+ghost use Rattle.jobs.specs.Job.{JobEnded, next};
 ghost use Rattle.sets.specs.Sets.{Marks};
 ghost use Rattle.sets.specs.Tests.{Says, Tried};
 ghost use Rattle.table.specs.declared.records.Role.TheVariants.{Opening};
@@ -13,7 +13,7 @@ ghost use Rattle.dispatch.specs.Tables.{task_nodes, task_arcs};
 use crate::job::Job;
 use crate::ready::{has_ended, state_of};
 use crate::spot::{Spot, Spots};
-use held_jobs::node_state::NodeState;
+use jobs::node_state::NodeState;
 use sets::bit_set::BitSet;
 use table::records::{Node, Role};
 use task::{Task, branches_of};

@@ -2,7 +2,7 @@
 ghost use Rattle.std.specs.Prelude.{◌≡◌};
 ghost use Rattle.dispatch.specs.Tables.{new_job};
 
-use held_jobs::node_state::NodeState;
+use jobs::node_state::NodeState;
 use sets::bit_set::BitSet;
 
 // How far it is with each node, where the places past the task's nodes stay untouched; the nodes that it had on a core

@@ -1,6 +1,6 @@
 // Which nodes of a job are ready.
 ghost use Rattle.std.specs.Prelude.{◌≡◌, ◌≤◌, length};
-ghost use Rattle.held_jobs.specs.Job.{state as how_far, HasEnded, Entered, Ready};
+ghost use Rattle.jobs.specs.Job.{state as how_far, HasEnded, Entered, Ready};
 ghost use Rattle.sets.specs.Sets.{Marks};
 ghost use Rattle.sets.specs.Tests.{Says};
 ghost use Rattle.task.specs.Graph.{Ranged, IsNode};
@@ -8,7 +8,7 @@ ghost use Rattle.dispatch.specs.Search.{UnderWay, MayStart, Struck};
 ghost use Rattle.dispatch.specs.Tables.{task_nodes, task_arcs};
 
 use crate::job::Job;
-use held_jobs::node_state::NodeState;
+use jobs::node_state::NodeState;
 use sets::bit_set::BitSet;
 use table::records::{Arc, Node, Region, Role};
 use task::Task;

@@ -9,13 +9,14 @@ use Rattle.task.specs.Graph.{region, time, IsNode, HasBranch, Ranged}
 use Rattle.task.specs.Shape.{Shaped}
 use Rattle.task.proofs.Follows.{branch_zero}
 use Rattle.paths.specs.Paths.{Path, end, step, last, Each}
-use Rattle.workload.specs.Measures.{taken_time}
+use Rattle.workload.specs.Measures.{taken_time, IsGreatestTotal}
 use Rattle.workload.specs.Settling.{Settling, Takes}
+use Rattle.workload.proofs.Sums.{sum_below_le}
 use Rattle.workload.proofs.Takes.{takes_top, takes_inside}
 use Rattle.jobs.specs.declared.node_state.NodeState.{NodeState}
 use Rattle.jobs.specs.declared.node_state.NodeState.TheVariants.{Untouched, Running, Ended}
-use Rattle.jobs.specs.Job.{state, Taken}
-use Rattle.jobs.specs.Statements.{PathToReady, ClosesBelow, Close, BelowGreatest}
+use Rattle.jobs.specs.Job.{state, Taken, Reached}
+use Rattle.jobs.specs.Statements.{PathToReady, ran_in_all, ClosesBelow, Close, BelowGreatest}
 use Rattle.jobs.proofs.Counts.{Counted, counted}
 use Rattle.jobs.proofs.Entering.{home_ended}
 use Rattle.jobs.proofs.Sums.{sum_below_less, ran_along_less}
@@ -82,12 +83,20 @@ module _ (ns : List Node) (arcs : List Arc) (job : List NodeState) (ran : ℕ �
             (omega (arith, counts_whole w ready.is_node ready.taken));
       }
 
+-- what a job has run in all is within the greatest total, whether it has ended or not
+pub within_greatest : {places : ℕ} (ns : List Node) (arcs : List Arc) (job : List NodeState) (ran : ℕ → ℕ) → Ranged ns arcs → Shaped ns arcs → Reached places ns arcs job ran
+    → (w : ℕ) → IsGreatestTotal ns w → ran_in_all ns ran ≤ w
+within_greatest ns arcs job ran r s reached w heaviest =
+    let c = counted ns arcs r job ran reached in
+    let counts = sum_below_le ran (taken_time ns (picks_so_far job)) (length ns) (ran_counts ns arcs job ran r s c) in
+    omega (arith, counts, heaviest.not_exceeded (picks_so_far job) (picks_settle ns arcs job ran r s c))
+
 pub close_holds_lem : Close
-close_holds_lem ns arcs job ran r s reached p to-ready =
+close_holds_lem places ns arcs job ran r s reached p to-ready =
     (picks_so_far job, closes_below ns arcs job ran r s (counted ns arcs r job ran reached) p to-ready)
 
 pub below_greatest_holds_lem : BelowGreatest
-below_greatest_holds_lem ns arcs job ran r s reached l w longest heaviest p to-ready =
+below_greatest_holds_lem places ns arcs job ran r s reached l w longest heaviest p to-ready =
     let below = closes_below ns arcs job ran r s (counted ns arcs r job ran reached) p to-ready in
     let long = longest.not_exceeded (picks_so_far job) p (record { settling = below.settling; path = to-ready.path; taken = below.takes_path }) in
     let whole = heaviest.not_exceeded (picks_so_far job) below.settling in

@@ -1,7 +1,6 @@
 -- What holds of every state that a job reaches, and of the ticks that its nodes have run.
-use Rattle.std.proofs.Common.{◌≡◌, ℕ, suc, ◌+◌, ◌<◌, ◌≤◌, ◌⊎◌, List, length, sym, refl, ◌∙◌, subst, inl, inr, arith}
-use lib.ListN.{length-replicate, get_or-replicate}
-use Rattle.std.proofs.lemmas.List.{get_or_past}
+use Rattle.std.proofs.Common.{◌≡◌, ℕ, ◌+◌, ◌<◌, ◌≤◌, ◌⊎◌, List, length, sym, refl, ◌∙◌, subst, inl, inr, arith}
+use Rattle.std.proofs.lemmas.List.{length-replicate, get_or-replicate, get_or_past}
 use Rattle.std.proofs.lemmas.Bool.{cases_lt}
 use Rattle.table.specs.declared.records.Arc.{Arc}
 use Rattle.table.specs.declared.records.Node.{Node}
@@ -23,15 +22,15 @@ pub record NodeCounted (ns : List Node) (job : List NodeState) (v ran : ℕ) (he
   pub ran_within : ran ≤ time ns v
 
 pub record Counted (ns : List Node) (job : List NodeState) (ran : ℕ → ℕ) : Type 0 where
-  pub long : length job ≡ length ns
+  pub room : length ns ≤ length job
   pub each : (v : ℕ) → NodeCounted ns job v (ran v) (state job v)
 
-pub state_released : (ns : List Node) (v : ℕ) → state (released ns) v ≡ Untouched
-state_released ns v = go (cases_lt v (length ns))
+pub state_released : (places v : ℕ) → state (released places) v ≡ Untouched
+state_released places v = go (cases_lt v places)
   where
-    go : (v < length ns) ⊎ (length ns ≤ v) → state (released ns) v ≡ Untouched
-    go (inl l) = get_or-replicate (length ns) v Untouched Untouched l
-    go (inr l) = get_or_past (released ns) v Untouched (omega (arith, length-replicate (length ns) Untouched))
+    go : (v < places) ⊎ (places ≤ v) → state (released places) v ≡ Untouched
+    go (inl l) = get_or-replicate places v Untouched Untouched l
+    go (inr l) = get_or_past (released places) v Untouched (omega (arith, length-replicate places Untouched))
 
 untouched_counted : (ns : List Node) (arcs : List Arc) → Ranged ns arcs → (job : List NodeState) (v : ℕ) → NodeCounted ns job v 0 Untouched
 untouched_counted ns arcs r job v =
@@ -48,7 +47,7 @@ module _ (ns : List Node) (arcs : List Arc) (job : List NodeState) (ran : ℕ �
   -- one node over one tick, by its outcome
   node_counted : (v : ℕ) (o : Outcome) → outcome v ≡ o → NodeCounted ns (after outcome job) v (ran v + ran_now o) (next o (state job v))
   node_counted v idle e =
-      let kept = taken_kept ns arcs job outcome c.long ok v in
+      let kept = taken_kept ns arcs job outcome c.room ok v in
       let was = c.each v in
       record {
         ended_taken = λ h. kept (was.ended_taken h);
@@ -60,20 +59,20 @@ module _ (ns : List Node) (arcs : List Arc) (job : List NodeState) (ran : ℕ �
       }
   node_counted v goes_on e =
       let ready = ok.only_ready v (λ i. goes_on_not_idle (sym e ∙ i)) in
-      let taken = taken_kept ns arcs job outcome c.long ok v ready.taken in
+      let taken = taken_kept ns arcs job outcome c.room ok v ready.taken in
       let same = (c.each v).ran_ticks ready.not_ended in
       let below = ok.below_time v e in
       record {
         ended_taken = λ h. taken;
-        ended_branch = λ b h op. absurd (running_not_ended (suc (ticks (state job v))) b h);
+        ended_branch = λ b h op. absurd (running_not_ended _ b h);
         ran_taken = λ l. taken;
         ran_ticks = λ h. omega arith;
         ran_below = λ n h. omega arith;
         ran_within = omega arith;
       }
   node_counted v (ends_with b) e =
-      let ready = ready_to_end ns arcs job outcome c.long ok v b e in
-      let taken = taken_kept ns arcs job outcome c.long ok v ready.taken in
+      let ready = ready_to_end ns arcs job outcome c.room ok v b e in
+      let taken = taken_kept ns arcs job outcome c.room ok v ready.taken in
       let below = (c.each v).ran_below ready.is_node ready.not_ended in
       record {
         ended_taken = λ h. taken;
@@ -87,16 +86,16 @@ module _ (ns : List Node) (arcs : List Arc) (job : List NodeState) (ran : ℕ �
   counted_after : Counted ns (after outcome job) (λ v. ran v + ran_now (outcome v))
   counted_after =
       record {
-        long = length_after outcome job ∙ c.long;
+        room = omega (arith, length_after outcome job, c.room);
         each = λ v.
-            subst (NodeCounted ns (after outcome job) v (ran v + ran_now (outcome v))) (sym (tick_state ns arcs job outcome c.long ok v))
+            subst (NodeCounted ns (after outcome job) v (ran v + ran_now (outcome v))) (sym (tick_state ns arcs job outcome c.room ok v))
             (node_counted v (outcome v) refl);
       }
 
-pub counted : (ns : List Node) (arcs : List Arc) → Ranged ns arcs → (job : List NodeState) (ran : ℕ → ℕ) → Reached ns arcs job ran → Counted ns job ran
-counted ns arcs r _ _ at_release =
+pub counted : {places : ℕ} (ns : List Node) (arcs : List Arc) → Ranged ns arcs → (job : List NodeState) (ran : ℕ → ℕ) → Reached places ns arcs job ran → Counted ns job ran
+counted {places} ns arcs r _ _ (at_release room) =
     record {
-      long = length-replicate (length ns) Untouched;
-      each = λ v. subst (NodeCounted ns (released ns) v 0) (sym (state_released ns v)) (untouched_counted ns arcs r (released ns) v);
+      room = omega (arith, length-replicate places Untouched, room);
+      each = λ v. subst (NodeCounted ns (released places) v 0) (sym (state_released places v)) (untouched_counted ns arcs r (released places) v);
     }
 counted ns arcs r _ _ (by_tick {job} {ran} before outcome ok) = counted_after ns arcs job ran outcome (counted ns arcs r job ran before) ok

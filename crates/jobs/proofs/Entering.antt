@@ -1,5 +1,5 @@
 -- Which nodes of a job have ended, and which are taken.
-use Rattle.std.proofs.Common.{◌≡◌, ℕ, ◌≢◌, ◌⊎◌, List, sym, refl, ap, subst, inl, inr, arith}
+use Rattle.std.proofs.Common.{◌≡◌, ℕ, ◌≢◌, ◌⊎◌, List, sym, refl, ap, subst, inl, inr}
 use Rattle.std.proofs.lemmas.Bool.{cases_eq}
 use Rattle.table.specs.declared.records.Node.{Node}
 use Rattle.table.specs.declared.records.Region.{Region}
@@ -10,10 +10,10 @@ use Rattle.jobs.specs.declared.node_state.NodeState.TheVariants.{Untouched, Runn
 use Rattle.jobs.specs.Job.{state, IsEnded, Entered, Taken}
 
 pub untouched_not_ended : (b : ℕ) → Untouched ≢ Ended b
-untouched_not_ended b e = let z : ◌≡◌ {A = ℕ} 0 1 = cc in omega arith
+untouched_not_ended b e = cc
 
 pub running_not_ended : (t b : ℕ) → Running t ≢ Ended b
-running_not_ended t b e = let z : ◌≡◌ {A = ℕ} 0 1 = cc in omega arith
+running_not_ended t b e = cc
 
 pub same_end : (c b : ℕ) → Ended c ≡ Ended b → c ≡ b
 same_end c b e = cc

@@ -1,5 +1,6 @@
 pub mod Close
 pub mod Counts
+pub mod Ended
 pub mod Entering
 pub mod Progress
 pub mod Share

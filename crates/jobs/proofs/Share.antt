@@ -80,7 +80,7 @@ module _ (ns : List Node) (arcs : List Arc) (job : List NodeState) (r : Ranged n
         begun.not_ended (ended_along w p k.chain.0 k.chain.1 reached w (itself begun.taken refl))
 
 pub ready_may_share_holds_lem : ReadyMayShare
-ready_may_share_holds_lem ns arcs job ran r s reached u v d a b =
+ready_may_share_holds_lem places ns arcs job ran r s reached u v d a b =
     let c = counted ns arcs r job ran reached in
     let ended_taken : (w : ℕ) → HasEnded job w → Taken ns job w = λ w. (c.each w).ended_taken in
     let starts = ended_started ns arcs r s job ran reached in

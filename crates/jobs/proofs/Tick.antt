@@ -9,7 +9,7 @@ use Rattle.table.specs.declared.records.Region.TheVariants.{Top, Branch}
 use Rattle.task.specs.Graph.{region}
 use Rattle.jobs.specs.declared.node_state.NodeState.{NodeState}
 use Rattle.jobs.specs.declared.node_state.NodeState.TheVariants.{Untouched, Ended}
-use Rattle.jobs.specs.Job.{state, ticks, HasEnded, Entered, Taken, Ready, Outcome, idle, goes_on, ends_with, next, after, Allowed}
+use Rattle.jobs.specs.Job.{state, HasEnded, Entered, Taken, Ready, Outcome, idle, goes_on, ends_with, next, after, Allowed}
 use Rattle.jobs.proofs.Entering.{running_not_ended, same_end}
 
 pub length_after : (outcome : ℕ → Outcome) (job : List NodeState) → length (after outcome job) ≡ length job
@@ -22,12 +22,12 @@ state_after outcome (s ∷ job) zero l = refl
 state_after outcome (s ∷ job) (suc v) l = state_after (λ u. outcome (suc u)) job v (le_of_suc-le-suc l)
 
 pub goes_on_not_idle : goes_on ≢ idle
-goes_on_not_idle e = let z : ◌≡◌ {A = ℕ} 0 1 = cc in omega arith
+goes_on_not_idle e = cc
 
 pub ends_not_idle : (b : ℕ) → ends_with b ≢ idle
-ends_not_idle b e = let z : ◌≡◌ {A = ℕ} 0 1 = cc in omega arith
+ends_not_idle b e = cc
 
-idle_or_not : (o : Outcome) → (o ≡ idle) ⊎ (o ≢ idle)
+pub idle_or_not : (o : Outcome) → (o ≡ idle) ⊎ (o ≢ idle)
 idle_or_not idle = inl refl
 idle_or_not goes_on = inr goes_on_not_idle
 idle_or_not (ends_with b) = inr (ends_not_idle b)
@@ -35,10 +35,10 @@ idle_or_not (ends_with b) = inr (ends_not_idle b)
 -- ended after the tick: ended before, or the outcome says so
 ended_next : (o : Outcome) (s : NodeState) (b : ℕ) → next o s ≡ Ended b → (s ≡ Ended b) ⊎ (o ≡ ends_with b)
 ended_next idle s b e = inl e
-ended_next goes_on s b e = absurd (running_not_ended (suc (ticks s)) b e)
+ended_next goes_on s b e = absurd (running_not_ended _ b e)
 ended_next (ends_with c) s b e = inr (ap ends_with (same_end c b e))
 
-module _ (ns : List Node) (arcs : List Arc) (job : List NodeState) (outcome : ℕ → Outcome) (long : length job ≡ length ns) (ok : Allowed ns arcs job outcome) where
+module _ (ns : List Node) (arcs : List Arc) (job : List NodeState) (outcome : ℕ → Outcome) (room : length ns ≤ length job) (ok : Allowed ns arcs job outcome) where
   pub tick_state : (v : ℕ) → state (after outcome job) v ≡ next (outcome v) (state job v)
   tick_state v = go (cases_lt v (length job)) (idle_or_not (outcome v))
     where

@@ -76,6 +76,6 @@ module _ (ns : List Node) (arcs : List Arc) (job : List NodeState) (r : Ranged n
   taken_ended (suc k) v l n t = ends_here v n t (λ w m. taken_ended k w (omega arith))
 
 pub ended_whole_holds_lem : EndedWhole
-ended_whole_holds_lem ns arcs job ran r s reached done v n t =
+ended_whole_holds_lem places ns arcs job ran r s reached done v n t =
     let c = counted ns arcs r job ran reached in
     taken_ended ns arcs job r s (λ w. (c.each w).ended_taken) (ended_started ns arcs r s job ran reached) done (length ns) v (omega arith) n t

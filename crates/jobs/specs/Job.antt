@@ -1,5 +1,5 @@
 -- A job of a task: how far it is with each of its nodes, which nodes are ready, and what a tick does to it. Assumes nothing.
-use Rattle.std.specs.Prelude.{◌≡◌, ℕ, suc, ◌+◌, ◌<◌, ◌≢◌, List, [], ◌∷◌, length, replicate, slice_index_or}
+use Rattle.std.specs.Prelude.{◌≡◌, ℕ, suc, ◌+◌, ◌<◌, ◌≤◌, ◌≢◌, List, [], ◌∷◌, length, replicate, slice_index_or}
 use Rattle.table.specs.declared.records.Arc.{Arc}
 use Rattle.table.specs.declared.records.Node.{Node}
 use Rattle.table.specs.declared.records.Region.{Region}
@@ -78,9 +78,9 @@ pub record Allowed (ns : List Node) (arcs : List Arc) (job : List NodeState) (ou
   pub branch_there : (v b : ℕ) → outcome v ≡ ends_with b → role ns v ≡ Opening → HasBranch ns v b
   pub else_zero : (v b : ℕ) → outcome v ≡ ends_with b → role ns v ≢ Opening → b ≡ 0
 
--- the job at its release
-abbrev pub released : List Node → List NodeState
-released ns = replicate (length ns) Untouched
+-- the job at its release, with so many places; those past the nodes of its task stay untouched
+abbrev pub released : ℕ → List NodeState
+released places = replicate places Untouched
 
 -- the ticks, 0 or 1, that a node ran in the tick
 abbrev pub ran_now : Outcome → ℕ
@@ -88,8 +88,8 @@ ran_now idle = 0
 ran_now goes_on = 1
 ran_now (ends_with b) = 1
 
--- the states that a job comes to from its release on, each with the ticks that the nodes have run
-pub data Reached (ns : List Node) (arcs : List Arc) : List NodeState → (ℕ → ℕ) → Type 0 where
-  at_release : Reached ns arcs (released ns) (λ v. 0)
-  by_tick : {job : List NodeState} {ran : ℕ → ℕ} → Reached ns arcs job ran → (outcome : ℕ → Outcome) → Allowed ns arcs job outcome
-      → Reached ns arcs (after outcome job) (λ v. ran v + ran_now (outcome v))
+-- the states that a job with so many places, one for each node at least, comes to from its release on, each with the ticks that the nodes have run
+pub data Reached (places : ℕ) (ns : List Node) (arcs : List Arc) : List NodeState → (ℕ → ℕ) → Type 0 where
+  at_release : length ns ≤ places → Reached places ns arcs (released places) (λ v. 0)
+  by_tick : {job : List NodeState} {ran : ℕ → ℕ} → Reached places ns arcs job ran → (outcome : ℕ → Outcome) → Allowed ns arcs job outcome
+      → Reached places ns arcs (after outcome job) (λ v. ran v + ran_now (outcome v))

@@ -28,8 +28,8 @@ pub record LedByEnd (arcs : List Arc) (outcome : ℕ → Outcome) (w : ℕ) : Ty
 -- a node that is ready after a tick was ready before, or a node with an arc to it ended in the tick
 abbrev pub Step : Type 0
 Step =
-    (ns : List Node) (arcs : List Arc) (job : List NodeState) (ran : ℕ → ℕ) (outcome : ℕ → Outcome) → Ranged ns arcs → Shaped ns arcs
-    → Reached ns arcs job ran → Allowed ns arcs job outcome
+    (places : ℕ) (ns : List Node) (arcs : List Arc) (job : List NodeState) (ran : ℕ → ℕ) (outcome : ℕ → Outcome) → Ranged ns arcs → Shaped ns arcs
+    → Reached places ns arcs job ran → Allowed ns arcs job outcome
     → (w : ℕ) → Ready ns arcs (after outcome job) w → Ready ns arcs job w ⊎ LedByEnd arcs outcome w
 
 -- a path of taken nodes that ends in a ready one
@@ -58,24 +58,24 @@ pub record ClosesBelow (ns : List Node) (job : List NodeState) (ran : ℕ → �
 -- there is such a settling for each path of taken nodes that ends in a ready one
 abbrev pub Close : Type 0
 Close =
-    (ns : List Node) (arcs : List Arc) (job : List NodeState) (ran : ℕ → ℕ) → Ranged ns arcs → Shaped ns arcs → Reached ns arcs job ran
+    (places : ℕ) (ns : List Node) (arcs : List Arc) (job : List NodeState) (ran : ℕ → ℕ) → Ranged ns arcs → Shaped ns arcs → Reached places ns arcs job ran
     → (p : Path) → PathToReady ns arcs job p → (pick : ℕ → ℕ) × ClosesBelow ns job ran p pick
 
 -- so the job has run less than the greatest length along the path, and less than the greatest total in all
 abbrev pub BelowGreatest : Type 0
 BelowGreatest =
-    (ns : List Node) (arcs : List Arc) (job : List NodeState) (ran : ℕ → ℕ) → Ranged ns arcs → Shaped ns arcs → Reached ns arcs job ran
+    (places : ℕ) (ns : List Node) (arcs : List Arc) (job : List NodeState) (ran : ℕ → ℕ) → Ranged ns arcs → Shaped ns arcs → Reached places ns arcs job ran
     → (l w : ℕ) → IsGreatestLength ns arcs l → IsGreatestTotal ns w
     → (p : Path) → PathToReady ns arcs job p → (ran_along ran p < l) × (ran_in_all ns ran < w)
 
 -- a job that has ended has ended every node that it took
 abbrev pub EndedWhole : Type 0
 EndedWhole =
-    (ns : List Node) (arcs : List Arc) (job : List NodeState) (ran : ℕ → ℕ) → Ranged ns arcs → Shaped ns arcs → Reached ns arcs job ran
+    (places : ℕ) (ns : List Node) (arcs : List Arc) (job : List NodeState) (ran : ℕ → ℕ) → Ranged ns arcs → Shaped ns arcs → Reached places ns arcs job ran
     → JobEnded ns arcs job → (v : ℕ) → IsNode ns v → Taken ns job v → HasEnded job v
 
 -- two nodes that are ready at the same time may share a tick
 abbrev pub ReadyMayShare : Type 0
 ReadyMayShare =
-    (ns : List Node) (arcs : List Arc) (job : List NodeState) (ran : ℕ → ℕ) → Ranged ns arcs → Shaped ns arcs → Reached ns arcs job ran
+    (places : ℕ) (ns : List Node) (arcs : List Arc) (job : List NodeState) (ran : ℕ → ℕ) → Ranged ns arcs → Shaped ns arcs → Reached places ns arcs job ran
     → (u v : ℕ) → u ≢ v → Ready ns arcs job u → Ready ns arcs job v → MayShare ns arcs u v

@@ -2,44 +2,32 @@
 ghost use Rattle.jobs.specs.Statements.{Progress, Step, Close, BelowGreatest, EndedWhole, ReadyMayShare};
 
 // A job that has not ended has a ready node.
-pub fn progress_holds() -> u8
+pub fn progress_holds()
     ensures { Progress }
-{
-    0
-}
+{}
 
 // A node that is ready after a tick was ready before, or a node with an arc to it ended in the tick.
-pub fn step_holds() -> u8
+pub fn step_holds()
     ensures { Step }
-{
-    0
-}
+{}
 
 // Over a path of taken nodes that ends in a ready one, and over all nodes, a job has run less than some settling
 // that keeps its picks has in times.
-pub fn close_holds() -> u8
+pub fn close_holds()
     ensures { Close }
-{
-    0
-}
+{}
 
 // So it has run less than the greatest length along the path, and less than the greatest total in all.
-pub fn below_greatest_holds() -> u8
+pub fn below_greatest_holds()
     ensures { BelowGreatest }
-{
-    0
-}
+{}
 
 // A job that has ended has ended every node that it took.
-pub fn ended_whole_holds() -> u8
+pub fn ended_whole_holds()
     ensures { EndedWhole }
-{
-    0
-}
+{}
 
 // Two nodes that are ready at the same time may share a tick: one settling takes both, and no path joins them.
-pub fn ready_may_share_holds() -> u8
+pub fn ready_may_share_holds()
     ensures { ReadyMayShare }
-{
-    0
-}
+{}

@@ -3,6 +3,12 @@ use Rattle.std.specs.Prelude.{◌≡◌, ℕ, ◌<◌, ◌≤◌, Bool, true, �
 use Rattle.std.specs.List.{AllByRecursion}
 use Rattle.order.specs.declared.Party.{Party}
 
+-- What an order means. `goes i k d`: a job of i that was released d ticks after one of k goes ahead of it.
+-- `most i k R`: the cap on the jobs of i that go ahead of one job of k, where R is the bound of i
+pub record Meaning : Type 0 where
+  pub goes : Party → Party → ℤ → Bool
+  pub most : Party → Party → ℕ → Option ℕ
+
 -- a task that a controller can hold
 pub record Lawful (p : Party) : Type 0 where
   pub slotted : p.slot < 16
@@ -28,8 +34,7 @@ AtMost a None = Unit {0}
 AtMost None (Some c) = ⊥
 AtMost (Some b) (Some c) = b ≤ c
 
--- `goes i k d`: a job of i that was released d ticks after one of k goes ahead of it.
--- `most i k R`: the cap on the jobs of i that go ahead of one job of k, where R is the bound of i
+-- the four laws
 pub record Orderly (goes : Party → Party → ℤ → Bool) (most : Party → Party → ℕ → Option ℕ) : Type 0 where
   -- of two jobs one goes ahead of the other
   pub total : (i k : Party) → Lawful i → Lawful k → Different i k → (d : ℤ) → (goes i k d ≡ true) ⊎ (goes k i (neg_ℤ d) ≡ true)

@@ -1,14 +1,17 @@
 // Orders of precedence between the jobs of different tasks.
 #![tactic(auto)]
 
-ghost use Rattle.std.specs.Prelude.{◌≡◌, ℕ, Bool, ℤ, Option};
-ghost use Rattle.order.specs.declared.Party.{Party};
-ghost use Rattle.order.specs.Laws.{Orderly};
-ghost use Rattle.order.specs.Orders.{smaller_slot, slot_cap, any_job, no_cap};
+ghost use Rattle.std.specs.Prelude.{◌≡◌};
+ghost use Rattle.order.specs.Laws.{Meaning, Orderly};
+ghost use Rattle.order.specs.Orders.{fixed_order, open_order};
 ghost use Rattle.std.proofs.Common.{rules};
 
+mod slot;
+
+pub use slot::Slot;
+
 // What an order may know of a task.
-#[derive(Clone, Copy, Drop)]
+#[derive(Clone, Copy, Debug, PartialEq, Eq, Drop)]
 pub struct Party {
     pub slot: u8,
     pub period: u32,
@@ -16,28 +19,24 @@ pub struct Party {
 }
 
 pub trait Order {
-    // whether a job of the first task goes ahead of a job of the second that was released that many ticks before it
-    ghost goes: { Self → Party → Party → ℤ → Bool };
-    // at most how many jobs of the first task go ahead of one job of the second, from the bound of the first
-    ghost most: { Self → Party → Party → ℕ → Option ℕ };
+    // who goes ahead of whom, and how many at most
+    ghost means: { Self → Meaning };
 
     fn ahead(&self, i: Party, k: Party, d: i64) -> bool
-        ensures { result ≡ goes self.now i k d };
+        ensures { result ≡ (means self.now).goes i k d };
 
     fn cap(&self, i: Party, k: Party, bound: u32) -> Option<u64>
-        ensures { result ≡ most self.now i k bound };
+        ensures { result ≡ (means self.now).most i k bound };
 
-    ghost orderly: { (o : Self) → Orderly (goes o) (most o) };
+    ghost orderly: { (o : Self) → Orderly (means o).goes (means o).most };
 }
 
 // The smaller slot goes ahead.
-#[derive(Clone, Copy, Drop)]
+#[derive(Clone, Copy, Debug, PartialEq, Eq, Drop)]
 pub struct Fixed;
 
 impl Order for Fixed {
-    ghost goes = { λ _. smaller_slot };
-
-    ghost most = { λ _. slot_cap };
+    ghost means = { λ _. fixed_order };
 
     ghost orderly = { Prim.search rules };
 
@@ -51,13 +50,11 @@ impl Order for Fixed {
 }
 
 // Every job goes ahead of every other.
-#[derive(Clone, Copy, Drop)]
+#[derive(Clone, Copy, Debug, PartialEq, Eq, Drop)]
 pub struct Open;
 
 impl Order for Open {
-    ghost goes = { λ _. any_job };
-
-    ghost most = { λ _. no_cap };
+    ghost means = { λ _. open_order };
 
     ghost orderly = { Prim.search rules };
 

@@ -1,12 +1,12 @@
 -- What one statement more adds to a plan.
-use Rattle.std.proofs.Common.{◌≡◌, ℕ, List, [], ◌∷◌, ◌++◌, Some, None, Option, sym, refl, ap, ◌∙◌, subst, arith}
+use Rattle.std.proofs.Common.{◌≡◌, ℕ, List, [], ◌∷◌, ◌++◌, length, Some, None, Option, sym, refl, ap, ◌∙◌, subst, arith}
 use Rattle.std.specs.List.{flat_map}
-use Rattle.std.proofs.lemmas.List.{append-nil, append_assoc, flat_map_more}
+use Rattle.std.proofs.lemmas.List.{append-nil, append_assoc, flat_map_more, length-append, same_from_push}
 use Rattle.table.specs.declared.records.Timing.{Timing}
 use Rattle.table.specs.Format.{Record, encode}
 use Rattle.table.specs.Format.{task as task_record}
 use Rattle.plans.specs.Entries.{Placed, ToldSource, written, file, ToldEntry, table_in, or_else, last_said, records_on, records_ahead, source_of, entries_on, entries}
-use Rattle.plans.specs.Entries.{Fits, FitBehind, Fitting}
+use Rattle.plans.specs.Entries.{OpenTask, Fits, FitBehind, Fitting}
 use Rattle.plans.specs.Statements.{Word, ToldTable, timed, filed, Said, cores, order, task, node, arc}
 
 or_else_none : {A : Type 0} (o : Option A) → or_else o None ≡ o
@@ -191,3 +191,65 @@ fit_more before (q ∷ ps) p f g =
 
 pub fitting_more : (ps : List Placed) (p : Placed) → Fitting ps → Fits ps p.said → Fitting (ps ++ p ∷ [])
 fitting_more ps p f g = fit_more [] ps p f g
+
+-- the latest entry, and what is said of its table
+
+-- the source is of the kind that is said
+abbrev pub OfKind : ToldTable → ToldSource → Type 0
+OfKind (timed t) (written bytes) = Unit {0}
+OfKind (timed t) (file name) = ⊥
+OfKind (filed f) (written bytes) = ⊥
+OfKind (filed f) (file name) = Unit {0}
+
+abbrev pub Latest : Option ToldTable → List ToldEntry → Type 0
+Latest None es = es ≡ []
+Latest (Some t) es = (before : List ToldEntry) × (e : ToldEntry) × (es ≡ before ++ e ∷ []) × OfKind t e.source
+
+source_kind : (t : ToldTable) (rs : List Record) → OfKind t (source_of t rs)
+source_kind (timed t) rs = tt
+source_kind (filed f) rs = tt
+
+latest_on : (line : ℕ) (s : Said) (rs : List Record) (o : Option ToldTable) (es : List ToldEntry) → Latest o es
+    → Latest (or_else o (table_in s)) (entries_on line s rs es)
+latest_on line (cores n) rs o es l = subst (λ (x : Option ToldTable). Latest x es) (sym (or_else_none o)) l
+latest_on line (order x) rs o es l = subst (λ (x : Option ToldTable). Latest x es) (sym (or_else_none o)) l
+latest_on line (task name slot t) rs None es l =
+    let e : ToldEntry = record { name = name; slot = slot; line = line; source = source_of t rs } in
+    ([], e, ap (λ (fs : List ToldEntry). e ∷ fs) l, source_kind t rs)
+latest_on line (task name slot t) rs (Some u) es l =
+    let e : ToldEntry = record { name = name; slot = slot; line = line; source = source_of t rs } in
+    (e ∷ l.0, l.1, ap (λ (fs : List ToldEntry). e ∷ fs) l.2, l.3)
+latest_on line (node n) rs o es l = subst (λ (x : Option ToldTable). Latest x es) (sym (or_else_none o)) l
+latest_on line (arc a) rs o es l = subst (λ (x : Option ToldTable). Latest x es) (sym (or_else_none o)) l
+
+latest : (ps : List Placed) → Latest (last_said table_in ps) (entries ps)
+unfolding last_said entries
+latest [] = refl
+latest (q ∷ ps) = latest_on q.line q.said (records_ahead ps) (last_said table_in ps) (entries ps) (latest ps)
+
+same_last : (es fs : List ToldEntry) (e f : ToldEntry) → es ++ e ∷ [] ≡ fs ++ f ∷ [] → e.source ≡ f.source
+same_last es fs e f h = ap (λ (x : ToldEntry). x.source) (same_from_push es fs e f h).1
+
+none_last : (es : List ToldEntry) (e : ToldEntry) → es ++ e ∷ [] ≡ [] → ⊥
+none_last es e h = omega (arith, ap length h, length-append es (e ∷ []))
+
+-- where there is no entry, no task is open
+pub shut_without : (ps : List Placed) → entries ps ≡ [] → OpenTask ps → ⊥
+shut_without ps none o =
+    let l = subst (λ (x : Option ToldTable). Latest x (entries ps)) o.1 (latest ps) in
+    none_last l.0 l.1 (sym l.2 ∙ none)
+
+-- nor where the last one is in a file
+pub shut_by_file : (ps : List Placed) (before : List ToldEntry) (e : ToldEntry) (name : Word) → entries ps ≡ before ++ e ∷ [] → e.source ≡ file name → OpenTask ps → ⊥
+shut_by_file ps before e name is from o =
+    let l = subst (λ (x : Option ToldTable). Latest x (entries ps)) o.1 (latest ps) in
+    subst (OfKind (timed o.0)) (same_last l.0 before l.1 e (sym l.2 ∙ is) ∙ from) l.3
+
+-- a task is open where the last one is written out
+pub open_written : (ps : List Placed) (before : List ToldEntry) (e : ToldEntry) (bytes : List ℕ) → entries ps ≡ before ++ e ∷ [] → e.source ≡ written bytes → OpenTask ps
+open_written ps before e bytes is from = go (last_said table_in ps) refl (latest ps)
+  where
+    go : (o : Option ToldTable) → last_said table_in ps ≡ o → Latest o (entries ps) → OpenTask ps
+    go None said l = absurd (none_last before e (sym is ∙ l))
+    go (Some (timed t)) said l = (t, said)
+    go (Some (filed f)) said l = absurd (subst (OfKind (filed f)) (same_last l.0 before l.1 e (sym l.2 ∙ is) ∙ from) l.3)

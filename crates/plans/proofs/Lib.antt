@@ -9,4 +9,3 @@ pub mod Slots
 pub mod Spelled
 pub mod Texts
 pub mod Unambiguous
-pub mod Written

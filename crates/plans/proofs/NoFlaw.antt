@@ -7,6 +7,7 @@ use Rattle.plans.specs.declared.plan.Precedence.{Precedence}
 use Rattle.plans.specs.Entries.{Placed, cores_in, order_in, last_said, entries, HasSlot, OpenTask, Fits, FitBehind, Fitting}
 use Rattle.plans.specs.Lines.{LinesTo, Stated}
 use Rattle.plans.specs.Parsed.{OfTable, NamesSlot, Unexpected, TakesSlot, ReadTo, WrongAt, LacksLine, NoFlaw}
+use Rattle.plans.specs.Settings.{setting_line}
 use Rattle.plans.specs.Statements.{Word, Said, cores, order, task, node, arc, Makes}
 use Rattle.plans.proofs.OneText.{one_line, one_lines, one_worded, one_stated}
 use Rattle.plans.proofs.Unambiguous.{one_number, at, byte, one_statement_lem}
@@ -108,7 +109,7 @@ no_flaw_lem text p (Missing what) a w =
     let same = one_stated 1 w.read.lines a.statements w.statements
     (subst (λ (ls : List (List ℕ)). Stated 1 ls a.statements) lines a.read.stated) w.read.stated in
     absurd (
-    not_lacking w.statements what.now p.cores (ap (last_said cores_in) (sym same) ∙ a.plan_of.cores_are)
+    not_lacking w.statements (setting_line what) p.cores (ap (last_said cores_in) (sym same) ∙ a.plan_of.cores_are)
     (p.order, ap (last_said order_in) (sym same) ∙ a.plan_of.order_is) w.lacks
     )
 no_flaw_lem text p NoMemory a w = refl

@@ -18,9 +18,6 @@ use Rattle.plans.proofs.Unambiguous.{one_statement_lem}
 clash : {A : Type 0} → true ≡ false → A
 clash e = let z : ◌≡◌ {A = ℕ} 0 1 = cc in absurd (omega arith)
 
-white_or_dark : (c : ℕ) → is_whitespace c ≡ true → is_not_whitespace c ≡ true → ⊥
-white_or_dark c w d = clash (sym d ∙ ap not w)
-
 not_dark : (c : ℕ) → is_not_whitespace c ≡ false → is_whitespace c ≡ true
 not_dark c e = go (is_whitespace c) e
   where

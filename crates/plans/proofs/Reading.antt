@@ -1,13 +1,18 @@
 -- The words of a line, as they are read.
-use Rattle.std.proofs.Common.{◌≡◌, ℕ, ◌<◌, eqb, List, [], ◌∷◌, ◌++◌, length, get_or, take, drop, sym, refl, ap, ◌∙◌, subst, inl, inr, arith, Bor}
-use Rattle.std.proofs.lemmas.List.{append-nil, append_assoc, map-append, take-append-drop}
+use Rattle.std.proofs.lemmas.Iterator.{IsCollectResult}
+use Rattle.std.specs.declared.alloc.Global.{Global}
+use Rattle.std.proofs.Common.{Option, None, Some, MatchOption, Ok, Err, Result, Vec, IfOk, vec_items, ◌≡◌, ℕ, ◌<◌, eqb, List, [], ◌∷◌, ◌++◌, length, get_or, take, drop, sym, refl, ap, ◌∙◌, subst, inl, inr, arith, Bor}
+use Rattle.std.proofs.lemmas.List.{take-append-drop}
 use Rattle.std.proofs.lemmas.Bool.{eqb-false}
 use Rattle.std.proofs.lemmas.Str.{NoCharPasses-byte, encode_ascii}
 use Rattle.std.specs.Str.Pattern.{HasCharAt}
-use Rattle.std.specs.Char.{is_whitespace, is_not_whitespace}
-use Rattle.std.specs.Str.{NoCharPasses, EmptyOrStartsWithPassing}
+use Rattle.std.specs.Char.{is_not_whitespace}
+use Rattle.std.specs.Iterator.{Yields}
+use Rattle.std.specs.declared.str.SplitWhitespace.{SplitWhitespace}
+use Rattle.std.specs.Str.Iter.{split_whitespace_rest, split_whitespace_steps}
+use Rattle.std.specs.Str.{NoCharPasses}
 use Rattle.plans.specs.Lines.{hash, Uncommented, WordsOf}
-use Rattle.plans.specs.Statements.{Word, texts}
+use Rattle.plans.specs.Statements.{texts}
 use Rattle.plans.proofs.Spelled.{Slice}
 
 -- a text without a # has none among its bytes
@@ -27,22 +32,22 @@ before_comment line code i j w at e =
       );
     })
 
--- the next word of what is left
-abbrev pub NextWord : List ℕ → Word → List ℕ → Type 0
-NextWord rest w after =
-    (gap : List ℕ) × (rest ≡ gap ++ (w ++ after)) × (0 < length w) × NoCharPasses is_not_whitespace gap × NoCharPasses is_whitespace w × ((more : List ℕ) × EmptyOrStartsWithPassing is_whitespace after more)
+-- the words that are taken one by one, up to a rest without any
+pub words_taken : (xs : Slice) (s t : SplitWhitespace) → Yields split_whitespace_steps s xs t → NoCharPasses is_not_whitespace (split_whitespace_rest t)
+    → WordsOf (split_whitespace_rest s) (texts xs)
+words_taken [] s t y none = subst (λ (z : SplitWhitespace). NoCharPasses is_not_whitespace (split_whitespace_rest z)) (sym y) none
+words_taken (x ∷ xs) s t (j, k, y) none = (k.0, split_whitespace_rest j, k.1, k.2, k.3, k.4, k.5, words_taken xs j t y none)
 
-pub one_word_more : (start rest after : List ℕ) (items all : Slice) (w : Bor (List ℕ)) → all ≡ items ++ w ∷ []
-    → ((ws : List Word) → WordsOf rest ws → WordsOf start (texts items ++ ws)) → NextWord rest w.now after
-    → (ws : List Word) → WordsOf after ws → WordsOf start (texts all ++ ws)
-one_word_more start rest after items all w e inv s ws k =
-    subst (WordsOf start)
-    (
-    sym (append_assoc (texts items) (w.now ∷ []) ws)
-    ∙ ap (λ (l : List Word). l ++ ws) (sym (map-append (λ (v : Bor (List ℕ)). v.now) items (w ∷ [])) ∙ ap texts (sym e))
-    )
-    (inv (w.now ∷ ws) (s.0, after, s.1, s.2, s.3, s.4, s.5, k))
+pub words_collected : (code : List ℕ) (s : SplitWhitespace) {E : Type 0} (r : Result (Vec (Bor (List ℕ)) Global) E) → split_whitespace_rest s ≡ code
+    → IsCollectResult split_whitespace_steps s r → IfOk r (λ v. WordsOf code (texts (vec_items v)))
+words_collected code s (Ok v) e (xs, (t, y, ends), (items, len)) =
+    let last = ends tt in
+    subst (λ (ws : Slice). WordsOf code (texts ws)) (sym items) (subst (λ (b : List ℕ). WordsOf b (texts xs)) e (words_taken xs s t y last.1.1))
+words_collected code s (Err x) e h = tt
 
-pub no_word_more : (start rest : List ℕ) (items : Slice) → ((ws : List Word) → WordsOf rest ws → WordsOf start (texts items ++ ws)) → NoCharPasses is_not_whitespace rest
-    → WordsOf start (texts items)
-no_word_more start rest items inv w = subst (WordsOf start) (append-nil (texts items)) (inv [] w)
+pub uncommented : (line code : List ℕ) (o : Option (Bor (List ℕ) × Bor (List ℕ)))
+    → MatchOption o (NoCharPasses (λ d. eqb d hash) line)
+    (λ x. (i : ℕ) × (j : ℕ) × NoCharPasses (λ d. eqb d hash) (take i line) × HasCharAt hash line i j × (x.0.now ≡ take i line))
+    → MatchOption o (code ≡ line) (λ x. code ≡ x.0.now) → Uncommented line code
+uncommented line code None none e = subst (Uncommented line) (sym e) (without_comment line none)
+uncommented line code (Some x) (i, j, none, at, is) e = before_comment line code i j none at (e ∙ is)

@@ -1,116 +1,62 @@
 -- What words say, and what they do not.
-use Rattle.std.proofs.Common.{◌≡◌, ℕ, ◌<◌, ◌≤◌, List, [], ◌∷◌, length, get_or, drop, Some, None, Ok, Err, codes, Option, Result, sym, refl, ap, ◌∙◌, subst, arith, Bor}
-use Rattle.table.specs.declared.records.Arc.{Arc}
+use Rattle.std.proofs.Common.{◌≡◌, ℕ, ◌≤◌, List, [], ◌∷◌, length, get_or, drop, Some, None, Ok, Err, codes, Option, Result, sym, refl, ap, ◌∙◌, subst, arith}
 use Rattle.table.specs.declared.records.Node.{Node}
 use Rattle.table.specs.declared.records.Region.{Region}
 use Rattle.table.specs.declared.records.Region.TheVariants.{Top, Branch}
 use Rattle.table.specs.declared.records.Role.{Role}
 use Rattle.table.specs.declared.records.Role.TheVariants.{Plain, Opening, Closing}
-use Rattle.table.specs.declared.records.Timing.{Timing}
-use Rattle.plans.specs.declared.plan.Precedence.{Precedence}
-use Rattle.plans.specs.declared.plan.Precedence.TheVariants.{Fixed, Open}
-use Rattle.plans.specs.declared.statement.Statement.{Statement}
+use Rattle.plans.specs.declared.wanted.Wanted.{Wanted}
+use Rattle.std.specs.Option.{IsNone}
+use Rattle.std.specs.Result.{IsErr}
 use Rattle.std.specs.Str.Parse.{without_leading_plus, digits_value}
 use Rattle.plans.specs.Numerals.{Counts, Counted}
 use Rattle.plans.specs.Parsed.{NamesSlot}
-use Rattle.plans.specs.Statements.{Word, ToldTable, timed, filed, Said, cores, order, task, arc, greatest_time, role_word, order_word, texts}
-use Rattle.plans.specs.Statements.{BranchSaid, RegionSaid, PlaceSaid, Sits, Closes, NodeSaid, TimesSaid, FileSaid, TableSaid, GoesOn, Makes, Heard, Found, ReadAs}
-use Rattle.plans.proofs.Keywords.{only_cores, only_order, only_task, only_arc, no_keyword}
-use Rattle.plans.proofs.Spelled.{Slice, nth, behind, length_texts, spelled_0, spelled_1, spelled_2, spelled_4, opened_1, opened_2, opened_3, opened_4}
+use Rattle.plans.specs.Statements.{Word, ToldTable, timed, filed, Said, task, greatest_time, role_word, texts}
+use Rattle.plans.specs.Statements.{RegionSaid, PlaceSaid, Sits, Closes, NodeSaid, TableSaid, Makes, Heard, Found}
+use Rattle.plans.proofs.Keywords.{only_task, only_arc}
+use Rattle.plans.proofs.Spelled.{Slice, nth, behind, length_texts, spelled_2, spelled_4, opened_2, opened_3, opened_4}
 
 -- a list of words is as long as the slice that has them
 as_long : (ws : Slice) (words : List Word) → texts ws ≡ words → length ws ≡ length words
 as_long ws words e = sym (length_texts ws) ∙ ap length e
 
+-- an answer that says what was expected, where the words say nothing of the kind
+
+pub unheard : {A B : Type 0} (view : A → B) (Says : B → Type 0) (r : Result A Wanted) → IsErr r → ((b : B) → Says b → ⊥) → Heard view Says r
+unheard view Says (Ok a) e none = absurd cc
+unheard view Says (Err what) e none = none
+
+pub unfound : {B : Type 0} (Says : B → Type 0) (r : Option B) → IsNone r → ((b : B) → Says b → ⊥) → Found Says r
+unfound Says (Some b) e none = absurd cc
+unfound Says None e none = none
+
 module _ (ws : Slice) where
-  abbrev Refuses : Word → Type 0
-  Refuses first = (s : Said) → Makes (first ∷ texts ws) s → ⊥
+  -- arcs
 
-  -- cores
-
-  pub cores_uncounted : (length ws ≡ 1 → ⊥) → Refuses (codes "cores")
-  cores_uncounted nay = only_cores (texts ws) (λ n g. nay (as_long ws _ g.1))
-
-  pub cores_said : (n : ℕ) → length ws ≡ 1 → Counts 255 (nth ws 0) n → Makes (codes "cores" ∷ texts ws) (cores n)
-  cores_said n l k = (refl, (nth ws 0, spelled_1 ws l, k))
-
-  pub cores_unsaid : length ws ≡ 1 → ((n : ℕ) → Counts 255 (nth ws 0) n → ⊥) → Refuses (codes "cores")
-  cores_unsaid l nay =
-      only_cores (texts ws) (λ n g. nay n (subst (λ (v : List Word). Counts 255 (get_or v 0 []) n) (sym g.1 ∙ spelled_1 ws l) g.2))
-
-  -- order
-
-  pub order_uncounted : (length ws ≡ 1 → ⊥) → Refuses (codes "order")
-  order_uncounted nay = only_order (texts ws) (λ o g. nay (as_long ws _ g))
-
-  pub order_said : (o : Precedence) → length ws ≡ 1 → nth ws 0 ≡ order_word o → Makes (codes "order" ∷ texts ws) (order o)
-  order_said o l f = (refl, spelled_1 ws l ∙ ap (λ (v : Word). v ∷ []) f)
-
-  pub order_unsaid : length ws ≡ 1 → (nth ws 0 ≡ codes "fixed" → ⊥) → (nth ws 0 ≡ codes "open" → ⊥) → Refuses (codes "order")
-  order_unsaid l fixed-not open-not = only_order (texts ws) go
-    where
-      go : (o : Precedence) → GoesOn (texts ws) (order o) → ⊥
-      go Fixed g = fixed-not (ap (λ (v : List Word). get_or v 0 []) (sym (spelled_1 ws l) ∙ g))
-      go Open g = open-not (ap (λ (v : List Word). get_or v 0 []) (sym (spelled_1 ws l) ∙ g))
-
-  -- arc
-
-  pub arc_uncounted : (length ws ≡ 2 → ⊥) → Refuses (codes "arc")
-  arc_uncounted nay = only_arc (texts ws) (λ a g. nay (as_long ws _ g.2))
-
-  pub arc_said : (a : Arc) → length ws ≡ 2 → Counts 255 (nth ws 0) a.from → Counts 255 (nth ws 1) a.to → Makes (codes "arc" ∷ texts ws) (arc a)
-  arc_said a l j k = (refl, (nth ws 0, nth ws 1, spelled_2 ws l, j, k))
-
-  pub arc_unsaid_from : length ws ≡ 2 → ((n : ℕ) → Counts 255 (nth ws 0) n → ⊥) → Refuses (codes "arc")
-  arc_unsaid_from l nay =
-      only_arc (texts ws)
-      (λ a g. nay a.from (subst (λ (v : List Word). Counts 255 (get_or v 0 []) a.from) (sym g.2 ∙ spelled_2 ws l) g.3))
-
-  pub arc_unsaid_to : length ws ≡ 2 → ((n : ℕ) → Counts 255 (nth ws 1) n → ⊥) → Refuses (codes "arc")
+  pub arc_unsaid_to : length ws ≡ 2 → ((n : ℕ) → Counts 255 (nth ws 1) n → ⊥) → (s : Said) → Makes (codes "arc" ∷ texts ws) s → ⊥
   arc_unsaid_to l nay =
       only_arc (texts ws)
       (λ a g. nay a.to (subst (λ (v : List Word). Counts 255 (get_or v 1 []) a.to) (sym g.2 ∙ spelled_2 ws l) g.4))
 
--- regions
+  -- regions
 
-pub home_unsaid : (at home of branch : Word) → ((n : ℕ) → Counts 63 home n → ⊥) → (x : Region) → BranchSaid at home of branch x → ⊥
-home_unsaid at home of branch nay Top s = s
-home_unsaid at home of branch nay (Branch h b) s = nay h s.2
+  pub home_unsaid : length ws ≡ 4 → ((n : ℕ) → Counts 63 (nth ws 1) n → ⊥) → (r : Region) → RegionSaid (texts ws) r → ⊥
+  home_unsaid l nay Top s = omega (arith, as_long ws _ s)
+  home_unsaid l nay (Branch h b) s =
+      nay h (subst (λ (v : List Word). Counts 63 (get_or v 1 []) h) (sym s.4 ∙ spelled_4 ws l) s.5.2)
 
-pub branch_unsaid : (at home of branch : Word) → ((n : ℕ) → Counts 255 branch n → ⊥) → (x : Region) → BranchSaid at home of branch x → ⊥
-branch_unsaid at home of branch nay Top s = s
-branch_unsaid at home of branch nay (Branch h b) s = nay b s.3
+  pub branch_unsaid : length ws ≡ 4 → ((n : ℕ) → Counts 255 (nth ws 3) n → ⊥) → (r : Region) → RegionSaid (texts ws) r → ⊥
+  branch_unsaid l nay Top s = omega (arith, as_long ws _ s)
+  branch_unsaid l nay (Branch h b) s =
+      nay b (subst (λ (v : List Word). Counts 255 (get_or v 3 []) b) (sym s.4 ∙ spelled_4 ws l) s.5.3)
 
-module _ (ws : Slice) where
-  pub region_of_branch : (r : Option Region) → length ws ≡ 4 → Found (BranchSaid (nth ws 0) (nth ws 1) (nth ws 2) (nth ws 3)) r → Found (RegionSaid (texts ws)) r
-  region_of_branch (Some Top) l f = absurd f
-  region_of_branch (Some (Branch h b)) l f = (nth ws 0, nth ws 1, nth ws 2, nth ws 3, spelled_4 ws l, f)
-  region_of_branch None l f = go
-    where
-      go : (x : Region) → RegionSaid (texts ws) x → ⊥
-      go Top s = omega (arith, as_long ws _ s)
-      go (Branch h b) s =
-          f (Branch h b) (
-          subst (λ (v : List Word). BranchSaid (get_or v 0 []) (get_or v 1 []) (get_or v 2 []) (get_or v 3 []) (Branch h b)) (sym s.4 ∙ spelled_4 ws l) s.5
-          )
-
-  pub region_uncounted : (length ws ≡ 0 → ⊥) → (length ws ≡ 4 → ⊥) → (x : Region) → RegionSaid (texts ws) x → ⊥
-  region_uncounted zero-not four-not Top s = zero-not (as_long ws _ s)
-  region_uncounted zero-not four-not (Branch h b) s = four-not (as_long ws _ s.4)
+  pub branch_said : (h b : ℕ) → length ws ≡ 4 → nth ws 0 ≡ codes "in" → nth ws 2 ≡ codes "branch" → Counts 63 (nth ws 1) h → Counts 255 (nth ws 3) b
+      → RegionSaid (texts ws) (Branch h b)
+  branch_said h b l first second j k = (nth ws 0, nth ws 1, nth ws 2, nth ws 3, spelled_4 ws l, (first, second, j, k))
 
   -- closings
 
-  pub closes_short : (time : ℕ) → length ws < 2 → (n : Node) → Closes time (texts ws) n → ⊥
-  closes_short time l n k = omega (arith, as_long ws _ k.place_said.2)
-
-  pub closes_not_of : (time : ℕ) → 2 ≤ length ws → (nth ws 0 ≡ codes "of" → ⊥) → (n : Node) → Closes time (texts ws) n → ⊥
-  closes_not_of time l nay n k = nay (ap (λ (v : List Word). get_or v 0 []) (sym (opened_2 ws l) ∙ k.place_said.2))
-
-  pub closes_unsaid : (time : ℕ) → 2 ≤ length ws → ((n : ℕ) → Counts 63 (nth ws 1) n → ⊥) → (n : Node) → Closes time (texts ws) n → ⊥
-  closes_unsaid time l nay n k =
-      nay k.mate (subst (λ (v : List Word). Counts 63 (get_or v 1 []) k.mate) (sym k.place_said.2 ∙ opened_2 ws l) k.place_said.3)
-
-  pub closes_said : (mate time : ℕ) (r : Result Node (Bor (List ℕ))) → 2 ≤ length ws → nth ws 0 ≡ codes "of"
+  pub closes_said : (mate time : ℕ) (r : Result Node Wanted) → 2 ≤ length ws → nth ws 0 ≡ codes "of"
       → Counts 63 (nth ws 1) mate → Heard (λ (n : Node). n) (Sits (Closing mate) time (behind ws 2)) r → Heard (λ (n : Node). n) (Closes time (texts ws)) r
   closes_said mate time (Ok n) l f counts s = record {
     mate = mate;
@@ -133,13 +79,6 @@ module _ (ws : Slice) where
 
   -- nodes
 
-  pub node_short : length ws < 2 → (n : Node) → NodeSaid (texts ws) n → ⊥
-  node_short l n k = omega (arith, as_long ws _ k.words_are)
-
-  pub node_unsaid_time : 2 ≤ length ws → ((t : ℕ) → Counts greatest_time (nth ws 1) t → ⊥) → (n : Node) → NodeSaid (texts ws) n → ⊥
-  node_unsaid_time l nay n k =
-      nay n.time (subst (λ (v : List Word). Counts greatest_time (get_or v 1 []) n.time) (sym k.words_are ∙ opened_2 ws l) k.time_said)
-
   same_time : (n : Node) (t : ℕ) → 2 ≤ length ws → Counts greatest_time (nth ws 1) t → NodeSaid (texts ws) n → n.time ≡ t
   same_time n t l counts k =
       k.time_said.value
@@ -156,7 +95,7 @@ module _ (ws : Slice) where
   abbrev Alone : Role → Type 0
   Alone role = (words : List Word) (r : Region) → (PlaceSaid words role r → RegionSaid words r) × (RegionSaid words r → PlaceSaid words role r)
 
-  pub node_alone : (role : Role) (time : ℕ) (r : Result Node (Bor (List ℕ))) → Alone role
+  pub node_alone : (role : Role) (time : ℕ) (r : Result Node Wanted) → Alone role
       → ((other : Role) → role_word other ≡ role_word role → other ≡ role)
       → 2 ≤ length ws → nth ws 0 ≡ role_word role → Counts greatest_time (nth ws 1) time
       → Heard (λ (n : Node). n) (Sits role time (behind ws 2)) r → Heard (λ (n : Node). n) (NodeSaid (texts ws)) r
@@ -197,15 +136,15 @@ only_closing Opening e = absurd (omega (arith, byte_at _ _ 0 e))
 only_closing (Closing m) e = (m, refl)
 
 module _ (ws : Slice) where
-  pub node_plain : (time : ℕ) (r : Result Node (Bor (List ℕ))) → 2 ≤ length ws → nth ws 0 ≡ codes "plain" → Counts greatest_time (nth ws 1) time
+  pub node_plain : (time : ℕ) (r : Result Node Wanted) → 2 ≤ length ws → nth ws 0 ≡ codes "plain" → Counts greatest_time (nth ws 1) time
       → Heard (λ (n : Node). n) (Sits Plain time (behind ws 2)) r → Heard (λ (n : Node). n) (NodeSaid (texts ws)) r
   node_plain time r = node_alone ws Plain time r (λ words x. (λ p. p, λ p. p)) only_plain
 
-  pub node_opening : (time : ℕ) (r : Result Node (Bor (List ℕ))) → 2 ≤ length ws → nth ws 0 ≡ codes "opening" → Counts greatest_time (nth ws 1) time
+  pub node_opening : (time : ℕ) (r : Result Node Wanted) → 2 ≤ length ws → nth ws 0 ≡ codes "opening" → Counts greatest_time (nth ws 1) time
       → Heard (λ (n : Node). n) (Sits Opening time (behind ws 2)) r → Heard (λ (n : Node). n) (NodeSaid (texts ws)) r
   node_opening time r = node_alone ws Opening time r (λ words x. (λ p. p, λ p. p)) only_opening
 
-  pub node_closing : (time : ℕ) (r : Result Node (Bor (List ℕ))) → 2 ≤ length ws → nth ws 0 ≡ codes "closing" → Counts greatest_time (nth ws 1) time
+  pub node_closing : (time : ℕ) (r : Result Node Wanted) → 2 ≤ length ws → nth ws 0 ≡ codes "closing" → Counts greatest_time (nth ws 1) time
       → Heard (λ (n : Node). n) (Closes time (behind ws 2)) r → Heard (λ (n : Node). n) (NodeSaid (texts ws)) r
   node_closing time (Ok n) l f counts s = record {
     time = nth ws 1;
@@ -226,42 +165,39 @@ module _ (ws : Slice) where
             (subst (λ (x : Role). PlaceSaid k.rest x n.region) closes.1 k.place_said);
       })
 
-  pub node_no_role : 2 ≤ length ws → (nth ws 0 ≡ codes "plain" → ⊥) → (nth ws 0 ≡ codes "opening" → ⊥) → (nth ws 0 ≡ codes "closing" → ⊥)
-      → (n : Node) → NodeSaid (texts ws) n → ⊥
-  node_no_role l plain-not opening-not closing-not n k = go n.role (role_told ws n l k)
-    where
-      go : (x : Role) → role_word x ≡ nth ws 0 → ⊥
-      go Plain e = plain-not (sym e)
-      go Opening e = opening-not (sym e)
-      go (Closing m) e = closing-not (sym e)
-
   -- tables and tasks
 
-  pub file_told : (r : Word) → length ws ≡ 2 → FileSaid (nth ws 0) (nth ws 1) r → TableSaid (texts ws) (filed r)
-  file_told r l f = (nth ws 0, nth ws 1, spelled_2 ws l, f)
+  pub times_told : (period deadline : ℕ) → length ws ≡ 4 → nth ws 0 ≡ codes "period" → nth ws 2 ≡ codes "deadline"
+      → Counts greatest_time (nth ws 1) period → Counts greatest_time (nth ws 3) deadline
+      → TableSaid (texts ws) (timed (record { period = period; deadline = deadline }))
+  times_told period deadline l first second j k = (
+    nth ws 0,
+    nth ws 1,
+    nth ws 2,
+    nth ws 3,
+    spelled_4 ws l,
+    record { first = first; second = second; period_said = j; deadline_said = k },
+  )
 
-  pub file_untold : length ws ≡ 2 → ((f : Word) → FileSaid (nth ws 0) (nth ws 1) f → ⊥) → (t : ToldTable) → TableSaid (texts ws) t → ⊥
-  file_untold l nay (timed t) s = omega (arith, as_long ws _ s.4)
-  file_untold l nay (filed f) s = nay f (subst (λ (v : List Word). FileSaid (get_or v 0 []) (get_or v 1 []) f) (sym s.2 ∙ spelled_2 ws l) s.3)
-
-  pub times_told : (t : Timing) → length ws ≡ 4 → TimesSaid (nth ws 0) (nth ws 1) (nth ws 2) (nth ws 3) t → TableSaid (texts ws) (timed t)
-  times_told t l f = (nth ws 0, nth ws 1, nth ws 2, nth ws 3, spelled_4 ws l, f)
-
-  pub times_untold : length ws ≡ 4 → ((t : Timing) → TimesSaid (nth ws 0) (nth ws 1) (nth ws 2) (nth ws 3) t → ⊥)
+  pub table_untold : (length ws ≡ 2 → nth ws 0 ≡ codes "file" → ⊥) → (length ws ≡ 4 → nth ws 0 ≡ codes "period" → nth ws 2 ≡ codes "deadline" → ⊥)
       → (t : ToldTable) → TableSaid (texts ws) t → ⊥
-  times_untold l nay (timed t) s =
-      nay t (subst (λ (v : List Word). TimesSaid (get_or v 0 []) (get_or v 1 []) (get_or v 2 []) (get_or v 3 []) t) (sym s.4 ∙ spelled_4 ws l) s.5)
-  times_untold l nay (filed f) s = omega (arith, as_long ws _ s.2)
+  table_untold no_file no_times (timed t) s =
+      let l = as_long ws _ s.4 in
+      let e = sym (spelled_4 ws l) ∙ s.4 in
+      no_times l (ap (λ (v : List Word). get_or v 0 []) e ∙ s.5.first) (ap (λ (v : List Word). get_or v 2 []) e ∙ s.5.second)
+  table_untold no_file no_times (filed f) s =
+      let l = as_long ws _ s.2 in
+      no_file l (ap (λ (v : List Word). get_or v 0 []) (sym (spelled_2 ws l) ∙ s.2) ∙ s.3.first)
 
-  pub table_uncounted : (length ws ≡ 2 → ⊥) → (length ws ≡ 4 → ⊥) → (t : ToldTable) → TableSaid (texts ws) t → ⊥
-  table_uncounted two-not four-not (timed t) s = four-not (as_long ws _ s.4)
-  table_uncounted two-not four-not (filed f) s = two-not (as_long ws _ s.2)
+  pub period_untold : length ws ≡ 4 → ((n : ℕ) → Counts greatest_time (nth ws 1) n → ⊥) → (t : ToldTable) → TableSaid (texts ws) t → ⊥
+  period_untold l nay (timed t) s =
+      nay t.period (subst (λ (v : List Word). Counts greatest_time (get_or v 1 []) t.period) (sym s.4 ∙ spelled_4 ws l) s.5.period_said)
+  period_untold l nay (filed f) s = omega (arith, as_long ws _ s.2)
 
-  pub task_short : length ws < 3 → (s : Said) → Makes (codes "task" ∷ texts ws) s → ⊥
-  task_short l = only_task (texts ws) (λ name slot t k. omega (arith, as_long ws _ k.words_are))
-
-  pub task_no_slot : 3 ≤ length ws → (nth ws 1 ≡ codes "slot" → ⊥) → (s : Said) → Makes (codes "task" ∷ texts ws) s → ⊥
-  task_no_slot l nay = only_task (texts ws) (λ name slot t k. nay (ap (λ (v : List Word). get_or v 1 []) (sym (opened_3 ws l) ∙ k.words_are)))
+  pub deadline_untold : length ws ≡ 4 → ((n : ℕ) → Counts greatest_time (nth ws 3) n → ⊥) → (t : ToldTable) → TableSaid (texts ws) t → ⊥
+  deadline_untold l nay (timed t) s =
+      nay t.deadline (subst (λ (v : List Word). Counts greatest_time (get_or v 3 []) t.deadline) (sym s.4 ∙ spelled_4 ws l) s.5.deadline_said)
+  deadline_untold l nay (filed f) s = omega (arith, as_long ws _ s.2)
 
   pub task_unsaid_slot : 3 ≤ length ws → ((n : ℕ) → Counts 15 (nth ws 2) n → ⊥) → (s : Said) → Makes (codes "task" ∷ texts ws) s → ⊥
   task_unsaid_slot l nay =
@@ -285,19 +221,6 @@ module _ (ws : Slice) where
   task_untold l nay =
       only_task (texts ws)
       (λ name slot t k. nay t (subst (λ (v : List Word). TableSaid (drop 3 v) t) (sym k.words_are ∙ opened_3 ws l) k.table_said))
-
-  -- whole statements
-
-  pub read_behind : (first : Word) (r : Result Statement (Bor (List ℕ))) → 1 ≤ length ws → nth ws 0 ≡ first → ReadAs (first ∷ behind ws 1) r → ReadAs (texts ws) r
-  read_behind first r l e s =
-      subst (λ (v : List Word). ReadAs v r) (sym (opened_1 ws l)) (subst (λ (w : Word). ReadAs (w ∷ behind ws 1) r) (sym e) s)
-
-  pub nothing_made : length ws ≡ 0 → (s : Said) → Makes (texts ws) s → ⊥
-  nothing_made l s k = subst (λ (v : List Word). Makes v s) (spelled_0 ws l) k
-
-  pub no_statement : 1 ≤ length ws → (nth ws 0 ≡ codes "cores" → ⊥) → (nth ws 0 ≡ codes "order" → ⊥) → (nth ws 0 ≡ codes "task" → ⊥)
-      → (nth ws 0 ≡ codes "node" → ⊥) → (nth ws 0 ≡ codes "arc" → ⊥) → (s : Said) → Makes (texts ws) s → ⊥
-  no_statement l a b c d e s k = no_keyword (nth ws 0) (behind ws 1) a b c d e s (subst (λ (v : List Word). Makes v s) (opened_1 ws l) k)
 
 -- the slot of a task that the words begin
 

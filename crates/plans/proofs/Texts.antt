@@ -1,27 +1,26 @@
 -- The lines of a text, as they are read.
 use Rattle.std.specs.Prelude.{codes}
-use Rattle.std.proofs.Common.{◌≡◌, ℕ, ◌+◌, ◌<◌, ◌≤◌, true, false, eqb, ◌⊎◌, List, [], ◌∷◌, ◌++◌, length, drop, Ok, Err, Result, sym, refl, ap, ◌∙◌, subst, inl, inr, arith}
+use Rattle.std.proofs.Common.{◌≡◌, ℕ, ◌+◌, ◌<◌, ◌≤◌, false, eqb, ◌⊎◌, List, [], ◌∷◌, ◌++◌, length, drop, Ok, Err, Result, sym, refl, ap, ◌∙◌, subst, inl, inr, arith}
 use lib.Utf8.{encode}
 use Rattle.std.proofs.lemmas.List.{length-append, nil_from_length}
-use Rattle.std.proofs.lemmas.Bool.{cases_eq, eqb-true, eqb-false}
+use Rattle.std.proofs.lemmas.Bool.{cases_eq, eqb-false}
 use Rattle.std.proofs.lemmas.Str.{length-encode, len_utf8_bounds}
+use Rattle.std.specs.Result.{IsErrAnd}
 use Rattle.std.specs.Str.Lines.{IsFirstLine}
 use Rattle.plans.specs.declared.draft.Draft.{Draft}
 use Rattle.plans.specs.declared.plan.Flaw.{Flaw}
 use Rattle.plans.specs.declared.plan.Flaw.TheVariants.{Expected, SlotTaken, Missing, NoMemory}
 use Rattle.plans.specs.declared.plan.PlanText.{PlanText}
 use Rattle.plans.specs.Drafts.{Drafted, Advances, Blamed, ReadsLine, Finishes}
-use Rattle.plans.specs.Entries.{Placed}
+use Rattle.plans.specs.Entries.{Placed, entries, HasSlot}
 use Rattle.plans.specs.Lines.{LinesTo, Worded, Stated}
-use Rattle.plans.specs.Parsed.{NamesSlot, ReadTo, Parsed}
+use Rattle.plans.specs.Parsed.{NamesSlot, TakesSlot, ReadTo, Parsed}
 use Rattle.plans.specs.Statements.{Word, ToldTable, texts, Said, task, Makes}
 use Rattle.plans.proofs.Gathering.{fitting_more}
-use Rattle.plans.proofs.Spelled.{Slice, spelled_0}
+use Rattle.plans.proofs.Spelled.{Slice}
+use Rattle.plans.proofs.Unambiguous.{one_number, at}
 
 -- words
-
-pub no_words : (items : Slice) (len : ℕ) → len ≡ length items → true ≡ eqb len 0 → texts items ≡ []
-no_words items len e t = spelled_0 items (sym e ∙ eqb-true len 0 (sym t))
 
 pub some_words : (items : Slice) (len : ℕ) → len ≡ length items → false ≡ eqb len 0 → texts items ≡ [] → ⊥
 some_words items len e f none = eqb-false len 0 (sym f) (e ∙ as_long items none)
@@ -40,6 +39,12 @@ named_slot (first ∷ ws) name slot t m = record {
   words_are = ap (λ (w : Word). w ∷ ws) m.0 ∙ ap (λ (l : List Word). codes "task" ∷ l) m.1.words_are;
   slot_said = m.1.slot_said;
 }
+
+-- no task begins in a slot that is taken, where the slot that the words name is free
+pub slot_free : (ps : List Placed) (words : List Word) (slot : ℕ) → NamesSlot words slot → (HasSlot slot (entries ps) → ⊥)
+    → (other : ℕ) → TakesSlot other ps words → ⊥
+slot_free ps words slot n free other t =
+    free (subst (λ (k : ℕ). HasSlot k (entries ps)) (one_number 15 15 _ _ other slot (at 3 _ _ (sym t.0.words_are ∙ n.words_are)) t.0.slot_said n.slot_said) t.1)
 
 -- what is wrong with the words is wrong with their line
 pub line_blamed : (ps : List Placed) (line : List ℕ) (number : ℕ) (words : List Word) (d : Draft) (flaw : Flaw) → Worded line words
@@ -170,6 +175,10 @@ wrong_line text rest line more number d e (SlotTaken at slot) k some l h = recor
 }
 wrong_line text rest line more number d e (Missing what) k some l h = absurd h
 wrong_line text rest line more number d e NoMemory k some l h = tt
+
+pub told_on : (text : List ℕ) (r : Result PlanText Flaw) (flaw : Flaw) → IsErrAnd r (λ e. e ≡ flaw) → Parsed text (Err flaw) → Parsed text r
+told_on text (Ok plan) flaw e p = absurd e
+told_on text (Err other) flaw e p = subst (λ (x : Flaw). Parsed text (Err x)) (sym e) p
 
 pub all_read : (text rest : List ℕ) (number : ℕ) (d : Draft) (r : Result PlanText Flaw) → (k : Reading text rest number d) → length rest ≡ 0
     → Finishes k.statements r → Parsed text r

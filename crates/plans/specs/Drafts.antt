@@ -1,44 +1,30 @@
 -- What is kept of a plan while its statements come.
-use Rattle.std.specs.Prelude.{◌≡◌, ℕ, ◌⊎◌, List, [], ◌∷◌, ◌++◌, Some, None, Ok, Err, vec_items, Option, Result}
+use Rattle.std.specs.Prelude.{◌≡◌, ℕ, ◌⊎◌, List, [], ◌∷◌, ◌++◌, Ok, Err, vec_items, Result}
+use Rattle.table.specs.Format.{encode}
+use Rattle.table.specs.Format.{node as node_record, arc as arc_record}
 use Rattle.plans.specs.declared.draft.Draft.{Draft}
-use Rattle.plans.specs.declared.draft.Head.{Head}
 use Rattle.plans.specs.declared.plan.Flaw.{Flaw}
 use Rattle.plans.specs.declared.plan.Flaw.TheVariants.{Expected, SlotTaken, Missing, NoMemory}
-use Rattle.plans.specs.Entries.{Placed, ToldEntry, written, cores_in, order_in, last_said, entries, told_entries, HasSlot, OpenTask, Fits}
+use Rattle.plans.specs.Entries.{Placed, cores_in, order_in, last_said, entries, told_entries, HasSlot, OpenTask, Fits}
 use Rattle.plans.specs.Lines.{Worded}
 use Rattle.plans.specs.declared.plan.PlanText.{PlanText}
 use Rattle.plans.specs.Parsed.{OfTable, Unexpected, TakesSlot, PlanOf, LacksLine}
-use Rattle.plans.specs.Statements.{Word, ToldTable, Said, task, Makes}
-
--- the task that is open, as an entry
-abbrev pub open_entry : Head → List ℕ → ToldEntry
-open_entry h table = record { name = h.name.now; slot = h.slot; line = h.line; source = written table }
-
--- the entries are those of the statements, but for that of the task that is open
-abbrev pub KeptEntries : Option Head → List ℕ → List ToldEntry → List Placed → Type 0
-KeptEntries None table es ps = (entries ps ≡ es) × (OpenTask ps → ⊥) × (table ≡ [])
-KeptEntries (Some h) table es ps = (entries ps ≡ es ++ open_entry h table ∷ []) × OpenTask ps
+use Rattle.plans.specs.Settings.{setting_line}
+use Rattle.plans.specs.Statements.{Word, ToldTable, Said, cores, order, task, node, arc, Makes}
 
 -- the draft of these statements
 pub record Drafted (d : Draft) (ps : List Placed) : Type 0 where
   pub cores_kept : d.cores ≡ last_said cores_in ps
   pub order_kept : d.order ≡ last_said order_in ps
-  pub entries_kept : KeptEntries d.head (vec_items d.table) (told_entries (vec_items d.entries)) ps
+  pub entries_kept : told_entries (vec_items d.entries) ≡ entries ps
 
--- the draft of these statements, every entry among its own
-pub record Closed (d : Draft) (ps : List Placed) : Type 0 where
-  pub cores_kept : d.cores ≡ last_said cores_in ps
-  pub order_kept : d.order ≡ last_said order_in ps
-  pub entries_kept : entries ps ≡ told_entries (vec_items d.entries)
-  pub no_head : d.head ≡ None
-  pub no_table : vec_items d.table ≡ []
-
--- the flaw is that memory ran out
-abbrev pub OutOfMemory : Flaw → Type 0
-OutOfMemory (Expected line what) = ⊥
-OutOfMemory (SlotTaken line slot) = ⊥
-OutOfMemory (Missing what) = ⊥
-OutOfMemory NoMemory = Unit {0}
+-- the bytes are the record of the statement, which is one of a node or of an arc
+abbrev pub RecordOf : Said → List ℕ → Type 0
+RecordOf (cores n) bytes = ⊥
+RecordOf (order o) bytes = ⊥
+RecordOf (task name slot t) bytes = ⊥
+RecordOf (node n) bytes = bytes ≡ encode (node_record n)
+RecordOf (arc a) bytes = bytes ≡ encode (arc_record a)
 
 -- the draft with one statement more, or why it may not stand there
 abbrev pub Advances : List Placed → Said → ℕ → Draft → Result Unit Flaw → Type 0
@@ -70,5 +56,5 @@ abbrev pub Finishes : List Placed → Result PlanText Flaw → Type 0
 Finishes ps (Ok plan) = PlanOf ps plan
 Finishes ps (Err (Expected at what)) = ⊥
 Finishes ps (Err (SlotTaken at slot)) = ⊥
-Finishes ps (Err (Missing what)) = LacksLine ps what.now
+Finishes ps (Err (Missing what)) = LacksLine ps (setting_line what)
 Finishes ps (Err NoMemory) = Unit {0}

@@ -7,6 +7,7 @@ use Rattle.plans.specs.declared.plan.PlanText.{PlanText}
 use Rattle.plans.specs.Entries.{Placed, cores_in, order_in, last_said, entries, told_entries, HasSlot, OpenTask, Fitting}
 use Rattle.plans.specs.Lines.{LinesTo, Stated, Worded}
 use Rattle.plans.specs.Numerals.{Counts}
+use Rattle.plans.specs.Settings.{setting_line}
 use Rattle.plans.specs.Statements.{Word, Said, cores, order, task, node, arc, Makes}
 
 -- the text up to the rest: its lines, and statements that may stand one behind another
@@ -89,7 +90,7 @@ abbrev pub Parsed : List ℕ → Result PlanText Flaw → Type 0
 Parsed text (Ok plan) = Says text plan
 Parsed text (Err (Expected line what)) = WrongAt text line Unexpected
 Parsed text (Err (SlotTaken line slot)) = WrongAt text line (TakesSlot slot)
-Parsed text (Err (Missing what)) = Lacking text what.now
+Parsed text (Err (Missing what)) = Lacking text (setting_line what)
 Parsed text (Err NoMemory) = Unit {0}
 
 -- the same plan, its names and tables as bytes

@@ -14,6 +14,7 @@ use Rattle.plans.specs.declared.statement.Statement.{Statement}
 use Rattle.plans.specs.declared.statement.Statement.TheVariants.{Cores, Order, Task, OfNode, OfArc}
 use Rattle.plans.specs.declared.statement.Origin.{Origin}
 use Rattle.plans.specs.declared.statement.Origin.TheVariants.{Timed, Filed}
+use Rattle.plans.specs.declared.wanted.Wanted.{Wanted}
 use Rattle.plans.specs.Numerals.{Counts}
 
 abbrev pub Word : Type 0
@@ -149,7 +150,7 @@ abbrev pub texts : List (Bor (List ℕ)) → List Word
 texts words = map (λ w. w.now) words
 
 -- the answer is what the words say; or what was expected there, and they say nothing of the kind
-abbrev pub Heard : {A B : Type 0} → (A → B) → (B → Type 0) → Result A (Bor (List ℕ)) → Type 0
+abbrev pub Heard : {A B : Type 0} → (A → B) → (B → Type 0) → Result A Wanted → Type 0
 Heard view Says (Ok a) = Says (view a)
 Heard {A} {B} view Says (Err what) = (b : B) → Says b → ⊥
 
@@ -159,5 +160,5 @@ Found Says (Some b) = Says b
 Found {B} Says None = (b : B) → Says b → ⊥
 
 -- the answer is the statement that the words make
-abbrev pub ReadAs : List Word → Result Statement (Bor (List ℕ)) → Type 0
+abbrev pub ReadAs : List Word → Result Statement Wanted → Type 0
 ReadAs words r = Heard meaning (Makes words) r

@@ -1,53 +1,39 @@
 // A plan while its statements come.
-ghost use Rattle.std.specs.Prelude.{◌≡◌, List, [], ◌∷◌, ◌++◌, MatchBool, MatchResult, ◌≢◌};
-ghost use Rattle.plans.specs.Drafts.{Drafted, Closed, OutOfMemory, Advances, Blamed, Finishes, ReadsLine};
-ghost use Rattle.plans.specs.Entries.{Placed, told_entries, entries as entries_of, HasSlot};
-ghost use Rattle.plans.specs.Statements.{Said, Makes, texts, meaning, told_table, timed as timed_table, filed as filed_table, task as task_said, node as node_said, arc as arc_said};
+ghost use Rattle.std.specs.Prelude.{◌≡◌, ◌≢◌, List, [], IfOk, MatchBool};
+ghost use Rattle.plans.specs.Drafts.{Drafted, RecordOf, Advances, Blamed, Finishes, ReadsLine};
+ghost use Rattle.plans.specs.Entries.{Placed, told_source, told_entries, source_of as begun, HasSlot};
+ghost use Rattle.plans.specs.Statements.{Said, Makes, texts, meaning, told_table, task as task_said};
 
-use crate::plan::{Entry, Flaw, PlanText, Precedence, Source};
-use crate::records::{push_arc, push_node, push_task};
+use crate::plan::{Entry, Flaw, PlanText, Precedence, Setting, Source};
+use crate::records::{arc_bytes, node_bytes, task_bytes};
 use crate::statement::{Origin, Statement, slot_named, statement_of};
+use crate::wanted::Wanted;
 use crate::words::words_of;
-use std::alloc::Global;
-use table::records::{Arc, Node, Timing};
+use std::alloc::{AllocError, Global};
 
-// A task whose nodes and arcs are still to come, and its line.
-#[derive(Clone, Copy, Drop)]
-pub(crate) struct Head<'a> {
-    pub name: &'a str,
-    pub slot: u8,
-    pub line: usize,
-}
-
-// What has been read so far; the table is that of the task at the head.
+// What has been read so far. Nodes and arcs go into the table of the last entry, where that is written out.
 #[derive(Drop)]
 pub(crate) struct Draft<'a> {
     pub heap: Global,
     pub cores: Option<u8>,
     pub order: Option<Precedence>,
     pub entries: Vec<Entry<'a>>,
-    pub head: Option<Head<'a>>,
-    pub table: Vec<u8>,
 }
 
 // Whether an entry has the slot.
 fn is_taken(entries: &[Entry], slot: u8) -> bool
     ensures { MatchBool result (HasSlot slot (told_entries entries.now)) (HasSlot slot (told_entries entries.now) → ⊥) }
 {
-    for held in entries {
-        if held.slot == slot {
-            return true;
-        }
-    }
-    false
+    entries.iter().any(|held| held.slot == slot)
 }
 
-fn add<'a>(entries: &mut Vec<Entry<'a>>, entry: Entry<'a>) -> Result<(), Flaw>
-    ensures { MatchResult result (λ _. entries.new.items ≡ entries.old.items ++ entry.entry ∷ []) OutOfMemory }
+// Where the table is of a task without nodes and arcs as yet.
+fn source_of<'a>(heap: Global, origin: Origin<'a>) -> Result<Source<'a>, AllocError>
+    ensures { IfOk result (λ source. told_source source ≡ begun (told_table origin.entry) []) }
 {
-    match entries.push(entry) {
-        Ok(()) => Ok(()),
-        Err(_) => Err(Flaw::NoMemory),
+    match origin {
+        Origin::Timed(timing) => Ok(Source::Written(task_bytes(timing).to_vec(heap)?)),
+        Origin::Filed(file) => Ok(Source::File(file)),
     }
 }
 
@@ -60,105 +46,38 @@ impl<'a> Draft<'a> {
             cores: None,
             order: None,
             entries: Vec::new(heap),
-            head: None,
-            table: Vec::new(heap),
         }
     }
 
-    // Puts the task whose nodes and arcs have come among the entries.
-    pub(crate) fn close(&mut self) -> Result<(), Flaw>
-        ensures { (ps : List Placed) → Drafted self.old ps → MatchResult result (λ _. Closed self.new ps) OutOfMemory }
+    // Takes in a task: its record is the first of its table, if that is written out.
+    fn task(&mut self, name: &'a str, slot: u8, origin: Origin<'a>, line: usize) -> Result<(), Flaw>
+        ensures { (ps : List Placed) → Drafted self.old ps → Advances ps (task_said name.now slot (told_table origin.entry)) line self.new result }
     {
-        let Some(head) = self.head.take() else {
-            return Ok(());
+        if is_taken(&self.entries, slot) {
+            return Err(Flaw::SlotTaken { line, slot });
+        }
+        let source = source_of(self.heap, origin)?;
+        self.entries.push(Entry {
+            name,
+            slot,
+            line,
+            source,
+        })?;
+        Ok(())
+    }
+
+    // Takes in a record of the open task's table.
+    fn write(&mut self, record: &[u8], what: Wanted, line: usize) -> Result<(), Flaw>
+        ensures { (ps : List Placed) (s : Said) → Drafted self.old ps → RecordOf s record.now → Advances ps s line self.new result }
+    {
+        let Some(entry) = self.entries.last_mut() else {
+            return Err(Flaw::Expected { line, what });
         };
-        let empty = Vec::new(self.heap);
-        let table = std::mem::replace(&mut self.table, empty);
-        add(
-            &mut self.entries,
-            Entry {
-                name: head.name,
-                slot: head.slot,
-                line: head.line,
-                source: Source::Written(table),
-            },
-        )
-    }
-
-    // Opens a task whose nodes and arcs follow.
-    fn begin(&mut self, head: Head<'a>, timing: Timing) -> Result<(), Flaw>
-        ensures { (ps : List Placed) → Closed self.old ps → (HasSlot head.entry.slot (entries_of ps) → ⊥) → Advances ps (task_said head.entry.name.now head.entry.slot (timed_table timing)) head.entry.line self.new result }
-    {
-        match push_task(&mut self.table, timing) {
-            Ok(()) => {
-                self.head = Some(head);
-                Ok(())
-            }
-            Err(_) => Err(Flaw::NoMemory),
-        }
-    }
-
-    // Takes in a task from a file.
-    fn refer(&mut self, head: Head<'a>, file: &'a str) -> Result<(), Flaw>
-        ensures { (ps : List Placed) → Closed self.old ps → (HasSlot head.entry.slot (entries_of ps) → ⊥) → Advances ps (task_said head.entry.name.now head.entry.slot (filed_table file.now)) head.entry.line self.new result }
-    {
-        add(
-            &mut self.entries,
-            Entry {
-                name: head.name,
-                slot: head.slot,
-                line: head.line,
-                source: Source::File(file),
-            },
-        )
-    }
-
-    fn task(&mut self, head: Head<'a>, origin: Origin<'a>) -> Result<(), Flaw>
-        ensures { (ps : List Placed) → Drafted self.old ps → Advances ps (task_said head.entry.name.now head.entry.slot (told_table origin.entry)) head.entry.line self.new result }
-    {
-        if let Err(flaw) = self.close() {
-            return Err(flaw);
-        }
-        if is_taken(self.entries.as_slice(), head.slot) {
-            return Err(Flaw::SlotTaken {
-                line: head.line,
-                slot: head.slot,
-            });
-        }
-        match origin {
-            Origin::Timed(timing) => self.begin(head, timing),
-            Origin::Filed(file) => self.refer(head, file),
-        }
-    }
-
-    fn node(&mut self, node: Node, line: usize) -> Result<(), Flaw>
-        ensures { (ps : List Placed) → Drafted self.old ps → Advances ps (node_said node) line self.new result }
-    {
-        if self.head.is_none() {
-            return Err(Flaw::Expected {
-                line,
-                what: "a task with a period and a deadline before its nodes",
-            });
-        }
-        match push_node(&mut self.table, node) {
-            Ok(()) => Ok(()),
-            Err(_) => Err(Flaw::NoMemory),
-        }
-    }
-
-    fn arc(&mut self, arc: Arc, line: usize) -> Result<(), Flaw>
-        ensures { (ps : List Placed) → Drafted self.old ps → Advances ps (arc_said arc) line self.new result }
-    {
-        if self.head.is_none() {
-            return Err(Flaw::Expected {
-                line,
-                what: "a task with a period and a deadline before its arcs",
-            });
-        }
-        match push_arc(&mut self.table, arc) {
-            Ok(()) => Ok(()),
-            Err(_) => Err(Flaw::NoMemory),
-        }
+        let Source::Written(table) = &mut entry.source else {
+            return Err(Flaw::Expected { line, what });
+        };
+        table.extend_from_slice(record)?;
+        Ok(())
     }
 
     // Takes in the statement of a line.
@@ -174,52 +93,42 @@ impl<'a> Draft<'a> {
                 self.order = Some(order);
                 Ok(())
             }
-            Statement::Task { name, slot, origin } => self.task(Head { name, slot, line }, origin),
-            Statement::OfNode(node) => self.node(node, line),
-            Statement::OfArc(arc) => self.arc(arc, line),
+            Statement::Task { name, slot, origin } => self.task(name, slot, origin, line),
+            Statement::OfNode(node) => self.write(&node_bytes(node), Wanted::TaskBeforeNodes, line),
+            Statement::OfArc(arc) => self.write(&arc_bytes(arc), Wanted::TaskBeforeArcs, line),
         }
     }
 
-    // Whether a task so far has the slot.
-    fn has_slot(&self, slot: u8) -> bool
-        ensures { (ps : List Placed) → Drafted self.now ps → MatchBool result (HasSlot slot (entries_of ps)) (HasSlot slot (entries_of ps) → ⊥) }
-    {
-        if is_taken(self.entries.as_slice(), slot) {
-            return true;
-        }
-        match self.head {
-            Some(head) => head.slot == slot,
-            None => false,
-        }
+    // Whether nodes and arcs may follow.
+    fn is_open(&self) -> bool {
+        matches!(
+            self.entries.last(),
+            Some(Entry {
+                source: Source::Written(_),
+                ..
+            })
+        )
     }
 
     // What was expected: a task, where the words begin a node or an arc and no task is open.
-    fn expected(&self, words: &[&'a str], what: &'static str) -> &'static str {
-        if self.head.is_some() {
-            return what;
-        }
-        let [first, ..] = words else {
-            return what;
-        };
-        match *first {
-            "node" => "a task with a period and a deadline before its nodes",
-            "arc" => "a task with a period and a deadline before its arcs",
+    fn expected(&self, words: &[&'a str], what: Wanted) -> Wanted {
+        match words {
+            ["node", ..] if !self.is_open() => Wanted::TaskBeforeNodes,
+            ["arc", ..] if !self.is_open() => Wanted::TaskBeforeArcs,
             _ => what,
         }
     }
 
     // What is wrong with words that make no statement.
-    fn blame(&self, words: &[&'a str], line: usize, what: &'static str) -> Flaw
+    fn blame(&self, words: &[&'a str], line: usize, what: Wanted) -> Flaw
         ensures { (ps : List Placed) → Drafted self.now ps → (texts words.now ≢ []) → ((s : Said) → Makes (texts words.now) s → ⊥) → Blamed ps (texts words.now) line result }
     {
-        let what = self.expected(words, what);
-        let Some(slot) = slot_named(words) else {
-            return Flaw::Expected { line, what };
-        };
-        if self.has_slot(slot) {
-            Flaw::SlotTaken { line, slot }
-        } else {
-            Flaw::Expected { line, what }
+        match slot_named(words) {
+            Some(slot) if is_taken(&self.entries, slot) => Flaw::SlotTaken { line, slot },
+            _ => Flaw::Expected {
+                line,
+                what: self.expected(words, what),
+            },
         }
     }
 
@@ -227,40 +136,30 @@ impl<'a> Draft<'a> {
     pub(crate) fn line(&mut self, line: &'a str, number: usize) -> Result<(), Flaw>
         ensures { (ps : List Placed) → Drafted self.old ps → ReadsLine ps line.now number self.new result }
     {
-        let words = match words_of(self.heap, line) {
-            Ok(words) => words,
-            Err(_) => return Err(Flaw::NoMemory),
-        };
+        let words = words_of(self.heap, line)?;
         if words.is_empty() {
             return Ok(());
         }
-        match statement_of(words.as_slice()) {
+        match statement_of(&words) {
             Ok(statement) => self.take(statement, number),
-            Err(what) => Err(self.blame(words.as_slice(), number, what)),
+            Err(what) => Err(self.blame(&words, number, what)),
         }
     }
-}
 
-// The plan of all the statements.
-pub(crate) fn finish<'a>(mut draft: Draft<'a>) -> Result<PlanText<'a>, Flaw>
-    ensures { (ps : List Placed) → Drafted draft.entry ps → Finishes ps result }
-{
-    if let Err(flaw) = draft.close() {
-        return Err(flaw);
+    // The plan of all the statements.
+    pub(crate) fn finish(self) -> Result<PlanText<'a>, Flaw>
+        ensures { (ps : List Placed) → Drafted self.entry ps → Finishes ps result }
+    {
+        let cores = self.cores.ok_or(Flaw::Missing {
+            what: Setting::Cores,
+        })?;
+        let order = self.order.ok_or(Flaw::Missing {
+            what: Setting::Order,
+        })?;
+        Ok(PlanText {
+            cores,
+            order,
+            entries: self.entries,
+        })
     }
-    let Some(cores) = draft.cores else {
-        return Err(Flaw::Missing {
-            what: "cores NUMBER",
-        });
-    };
-    let Some(order) = draft.order else {
-        return Err(Flaw::Missing {
-            what: "order fixed",
-        });
-    };
-    Ok(PlanText {
-        cores,
-        order,
-        entries: draft.entries,
-    })
 }

@@ -7,4 +7,5 @@ pub mod parse;
 pub mod plan;
 mod records;
 mod statement;
+pub mod wanted;
 mod words;

@@ -1,21 +1,17 @@
 // Numbers as they are written.
 ghost use Rattle.plans.specs.Numerals.{Counted};
+ghost use Rattle.plans.specs.Statements.{greatest_time};
 
-pub(crate) fn number_in(word: &str, most: u32) -> Option<u32>
-    ensures { Counted most word.now result }
+// A time in ticks.
+pub(crate) fn ticks_in(word: &str) -> Option<u32>
+    ensures { Counted greatest_time word.now result }
 {
-    match word.parse::<u32>() {
-        Ok(n) if n <= most => Some(n),
-        _ => None,
-    }
+    word.parse().ok()
 }
 
 // A slot, or the number of a node or of a branch.
 pub(crate) fn byte_in(word: &str, most: u8) -> Option<u8>
     ensures { Counted most word.now result }
 {
-    match word.parse::<u8>() {
-        Ok(n) if n <= most => Some(n),
-        _ => None,
-    }
+    word.parse().ok().filter(|n| *n <= most)
 }

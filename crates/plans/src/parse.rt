@@ -2,7 +2,7 @@
 ghost use Rattle.plans.specs.Parsed.{Parsed, OnePlan, NoFlaw};
 ghost use Rattle.plans.specs.Statements.{OneStatement};
 
-use crate::draft::{Draft, finish};
+use crate::draft::Draft;
 use crate::plan::{Flaw, PlanText};
 use std::alloc::Global;
 
@@ -10,34 +10,23 @@ pub fn parse<'a>(heap: Global, text: &'a str) -> Result<PlanText<'a>, Flaw>
     ensures { Parsed text.now result }
 {
     let mut draft = Draft::new(heap);
-    let mut lines = text.lines();
-    let mut number = 0;
-    while let Some(line) = lines.next() {
-        number += 1;
-        if let Err(flaw) = draft.line(line, number) {
-            return Err(flaw);
-        }
+    for (index, line) in text.lines().enumerate() {
+        draft.line(line, index + 1)?;
     }
-    finish(draft)
+    draft.finish()
 }
 
 // The words of a line make one statement at most.
-pub fn one_statement() -> u8
+pub fn one_statement()
     ensures { OneStatement }
-{
-    0
-}
+{}
 
 // A text says one plan at most.
-pub fn one_plan() -> u8
+pub fn one_plan()
     ensures { OnePlan }
-{
-    0
-}
+{}
 
 // A text that says a plan is told no flaw, unless memory runs out.
-pub fn no_flaw() -> u8
+pub fn no_flaw()
     ensures { NoFlaw }
-{
-    0
-}
+{}

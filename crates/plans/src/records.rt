@@ -1,8 +1,7 @@
 // The records of a table, as bytes.
-ghost use Rattle.std.specs.Prelude.{◌≡◌, ◌++◌, OnOk};
+ghost use Rattle.std.specs.Prelude.{◌≡◌};
 ghost use Rattle.table.specs.Format.{task as task_record, node as node_record, arc as arc_record, role_byte, mate_byte, home_byte, branch_byte, encode};
 
-use std::alloc::AllocError;
 use table::records::{Arc, Node, Region, Role, Timing};
 
 // What stands for no home and for no mate.
@@ -29,7 +28,7 @@ fn region_bytes(region: Region) -> (u8, u8)
     }
 }
 
-fn task_bytes(timing: Timing) -> [u8; 12]
+pub(crate) fn task_bytes(timing: Timing) -> [u8; 12]
     ensures { result ≡ encode (task_record timing) }
 {
     let [a, b, c, d] = timing.period.to_le_bytes();
@@ -37,7 +36,7 @@ fn task_bytes(timing: Timing) -> [u8; 12]
     [12, 0, 1, 0, a, b, c, d, e, f, g, h]
 }
 
-fn node_bytes(node: Node) -> [u8; 12]
+pub(crate) fn node_bytes(node: Node) -> [u8; 12]
     ensures { result ≡ encode (node_record node) }
 {
     let (role, mate) = role_bytes(node.role);
@@ -46,20 +45,8 @@ fn node_bytes(node: Node) -> [u8; 12]
     [12, 0, 2, 0, role, home, branch, mate, a, b, c, d]
 }
 
-pub(crate) fn push_task(table: &mut Vec<u8>, timing: Timing) -> Result<(), AllocError>
-    ensures { OnOk result (table.new.items ≡ table.old.items ++ encode (task_record timing)) }
+pub(crate) fn arc_bytes(arc: Arc) -> [u8; 6]
+    ensures { result ≡ encode (arc_record arc) }
 {
-    table.extend_from_slice(&task_bytes(timing))
-}
-
-pub(crate) fn push_node(table: &mut Vec<u8>, node: Node) -> Result<(), AllocError>
-    ensures { OnOk result (table.new.items ≡ table.old.items ++ encode (node_record node)) }
-{
-    table.extend_from_slice(&node_bytes(node))
-}
-
-pub(crate) fn push_arc(table: &mut Vec<u8>, arc: Arc) -> Result<(), AllocError>
-    ensures { OnOk result (table.new.items ≡ table.old.items ++ encode (arc_record arc)) }
-{
-    table.extend_from_slice(&[6, 0, 3, 0, arc.from, arc.to])
+    [6, 0, 3, 0, arc.from, arc.to]
 }

@@ -9,22 +9,14 @@ use std::alloc::{AllocError, Global};
 fn code_of(line: &str) -> &str
     ensures { Uncommented line.now result.now }
 {
-    match line.split_once('#') {
-        Some((code, _)) => code,
-        None => line,
-    }
+    line.split_once('#').map_or(line, |(code, _)| code)
 }
 
 // The runs of characters that are not white space.
 fn split<'a>(heap: Global, code: &'a str) -> Result<Vec<&'a str>, AllocError>
     ensures { IfOk result (λ v. WordsOf code.now (texts v.items)) }
 {
-    let mut words = Vec::new(heap);
-    let mut rest = code.split_whitespace();
-    while let Some(word) = rest.next() {
-        words.push(word)?;
-    }
-    Ok(words)
+    code.split_whitespace().collect(heap)
 }
 
 pub(crate) fn words_of<'a>(heap: Global, line: &'a str) -> Result<Vec<&'a str>, AllocError>

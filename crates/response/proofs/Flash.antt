@@ -9,10 +9,10 @@ use Rattle.workload.specs.Measures.{IsGreatestLength, IsGreatestTotal}
 use Rattle.workload.proofs.Single.{single_plain, single_shaped, single_length, single_total}
 use Rattle.task.specs.Held.{nodes_of, arcs_of}
 use Rattle.task.proofs.Apart.{plain_not_opening, plain_not_closing}
-use Rattle.held_jobs.specs.Job.{Ready, Outcome, idle, goes_on, ends_with, Allowed, released}
-use Rattle.held_jobs.proofs.Entering.{untouched_not_ended}
-use Rattle.held_jobs.proofs.Tick.{ends_not_idle}
-use Rattle.runs.specs.Jobs.{Turn, MayHave}
+use Rattle.jobs.specs.Job.{Ready, Outcome, idle, goes_on, ends_with, Allowed, released}
+use Rattle.jobs.proofs.Entering.{untouched_not_ended}
+use Rattle.jobs.proofs.Tick.{ends_not_idle}
+use Rattle.timing.specs.Jobs.{Turn, MayHave}
 use Rattle.response.specs.Jobs.{outcome_in, graph_jobs}
 use Rattle.response.specs.Example.{flash}
 
@@ -47,7 +47,7 @@ flash_total = single_total 1
 abbrev pub lit : Turn Outcome
 lit = record { node = 0; outcome = ends_with 0 }
 
-ready_at_release : Ready (lamp_nodes 1) [] released 0
+ready_at_release : Ready (lamp_nodes 1) [] (released 64) 0
 ready_at_release =
     record {
       is_node = lit< tt;
@@ -73,10 +73,10 @@ ends_with_zero : (b : Bool) (c : ℕ) → cond b (ends_with 0) idle ≡ ends_wit
 ends_with_zero true c e = cc
 ends_with_zero false c e = absurd (let z : ◌≡◌ {A = ℕ} 0 1 = cc in omega arith)
 
-tick_allowed : Allowed (lamp_nodes 1) [] released (outcome_in (lit ∷ []))
+tick_allowed : Allowed (lamp_nodes 1) [] (released 64) (outcome_in (lit ∷ []))
 tick_allowed =
     record {
-      only_ready = λ v ran. subst (Ready (lamp_nodes 1) [] released) (sym (ran_zero v (eqb v 0) refl ran)) ready_at_release;
+      only_ready = λ v ran. subst (Ready (lamp_nodes 1) [] (released 64)) (sym (ran_zero v (eqb v 0) refl ran)) ready_at_release;
       below_time = λ v e. absurd (never_goes_on (eqb v 0) e);
       branch_there = λ v b e op. absurd (plain_not_opening (sym (single_plain 1 v) ∙ op));
       else_zero = λ v b e n. ends_with_zero (eqb v 0) b e;

@@ -5,9 +5,9 @@ use Rattle.table.specs.declared.records.Table.{Table}
 use Rattle.task.specs.Held.{nodes_of, arcs_of}
 use Rattle.bounds.specs.declared.plan.Plan.{Plan}
 use Rattle.bounds.specs.Equation.{Caps}
-use Rattle.runs.specs.Jobs.{JobLaws}
-use Rattle.runs.specs.System.{Bounded, SoundJobs}
-use Rattle.runs.proofs.Invariant.{responds}
+use Rattle.timing.specs.Jobs.{JobLaws}
+use Rattle.timing.specs.System.{Bounded, SoundJobs}
+use Rattle.timing.proofs.Invariant.{responds}
 use Rattle.response.specs.Jobs.{graph_jobs}
 use Rattle.response.specs.System.{Goes, number, numbers_of, system_of}
 use Rattle.response.specs.Statements.{Planned, PlansRespond}

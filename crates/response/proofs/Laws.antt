@@ -11,18 +11,18 @@ use Rattle.paths.specs.Paths.{Path, end, step, first, last, Each, Chain}
 use Rattle.workload.specs.Measures.{IsGreatestLength, IsGreatestTotal}
 use Rattle.workload.proofs.Sums.{sum_below_same, sum_below_none}
 use Rattle.workload.proofs.Takes.{takes_top}
-use Rattle.held_jobs.specs.declared.node_state.NodeState.{NodeState}
-use Rattle.held_jobs.specs.Job.{HasEnded, Taken, Ready, JobEnded, Outcome, idle, ends_with, Allowed, ran_now, Reached, at_release, by_tick}
-use Rattle.held_jobs.specs.Statements.{ran_along, ran_in_all, LedByEnd}
-use Rattle.held_jobs.proofs.Close.{within_greatest, below_greatest_holds_lem}
-use Rattle.held_jobs.proofs.Counts.{counted}
-use Rattle.held_jobs.proofs.Ended.{t_job_ended}
-use Rattle.held_jobs.proofs.Progress.{first_node_at_top, progress_holds_lem}
-use Rattle.held_jobs.proofs.Started.{Started, ready_started, ended_started, ran_started}
-use Rattle.held_jobs.proofs.Step.{step_holds_lem}
-use Rattle.held_jobs.proofs.Tick.{idle_or_not, taken_kept, ended_now, ends_not_idle}
-use Rattle.runs.specs.Jobs.{Turn, turns_of, MayHave, Fair}
-use Rattle.runs.proofs.Weights.{weighs, work_weighs}
+use Rattle.jobs.specs.declared.node_state.NodeState.{NodeState}
+use Rattle.jobs.specs.Job.{HasEnded, Taken, Ready, JobEnded, Outcome, idle, ends_with, Allowed, ran_now, Reached, at_release, by_tick}
+use Rattle.jobs.specs.Statements.{ran_along, ran_in_all, LedByEnd}
+use Rattle.jobs.proofs.Close.{within_greatest, below_greatest_holds_lem}
+use Rattle.jobs.proofs.Counts.{counted}
+use Rattle.jobs.proofs.Ended.{t_job_ended}
+use Rattle.jobs.proofs.Progress.{first_node_at_top, progress_holds_lem}
+use Rattle.jobs.proofs.Started.{Started, ready_started, ended_started, ran_started}
+use Rattle.jobs.proofs.Step.{step_holds_lem}
+use Rattle.jobs.proofs.Tick.{idle_or_not, taken_kept, ended_now, ends_not_idle}
+use Rattle.timing.specs.Jobs.{Turn, turns_of, MayHave, Fair}
+use Rattle.timing.proofs.Weights.{weighs, work_weighs}
 use Rattle.response.specs.Jobs.{JobState, outcome_in, advance, LeadsTo, ChainTo, graph_jobs}
 use Rattle.response.specs.Statements.{EndsDecided, GraphsKeepLaws}
 use Rattle.response.proofs.Trails.{onward, onward_last, onward_each, onward_chain, onward_ran, each_implies}
@@ -61,7 +61,7 @@ module _ (ns : List Node) (arcs : List Arc) (j : JobState) (ts : List (Turn Outc
       sum_below_same (λ v. j.ran v + ran_now (outcome_in ts v)) (λ v. j.ran v + turns_of v ts) (length ns) (λ v l. omega (arith, ran_now_turns v))
       ∙ all_ran (length ns) j.ran ts (all_map (MayHave (graph_jobs ns arcs) j) (λ t. t.node < length ns) (λ t h. h.0.is_node) ts fair.allowed)
 
-  module _ (r : Ranged ns arcs) (reached : Reached ns arcs j.states j.ran) where
+  module _ (r : Ranged ns arcs) (reached : Reached 64 ns arcs j.states j.ran) where
     room : length ns ≤ length j.states
     room = (counted ns arcs r j.states j.ran reached).room
 
@@ -143,7 +143,7 @@ module _ (ns : List Node) (arcs : List Arc) (j : JobState) (ts : List (Turn Outc
     module _ (s : Shaped ns arcs) where
       leads_or_was : (w : ℕ) → Ready ns arcs (advance j ts).states w
           → Ready ns arcs j.states w ⊎ ((v : ℕ) × (1 ≤ turns_of v ts) × LeadsTo arcs (advance j ts) v w)
-      leads_or_was w ready = go (step_holds_lem ns arcs j.states j.ran (outcome_in ts) r s reached tick_allowed w ready)
+      leads_or_was w ready = go (step_holds_lem 64 ns arcs j.states j.ran (outcome_in ts) r s reached tick_allowed w ready)
         where
           led : (v b : ℕ) → Joined arcs v w → outcome_in ts v ≡ ends_with b → (u : ℕ) × (1 ≤ turns_of u ts) × LeadsTo arcs (advance j ts) u w
           led v b joined now = (
@@ -175,7 +175,7 @@ some_length ns arcs L W r longest heaviest =
 pub graphs_keep_laws_lem : GraphsKeepLaws
 graphs_keep_laws_lem ns arcs m L W r s longest heaviest =
     record {
-      fresh_sound = at_release;
+      fresh_sound = at_release r.few_nodes;
       fresh_own = sum_below_none (λ v. 0) (length ns) (λ v l. refl);
       fresh_chain = λ w ready.
           record { along = end w; path = record { nodes = ready.is_node; joined = tt }; taken = ready.taken; ends = refl; has_run = refl };
@@ -187,7 +187,7 @@ graphs_keep_laws_lem ns arcs m L W r s longest heaviest =
       chain_stays = λ j ts h w c was is chain. chain_stays ns arcs j ts h.1 r h.0 s w c was chain;
       chain_leads = λ j ts h v w c was turn leads is chain. chain_leads ns arcs j ts h.1 r h.0 s v w c was turn leads is chain;
       close = λ j sound w c ready chain.
-          let below = below_greatest_holds_lem ns arcs j.states j.ran r s sound L W longest heaviest chain.along (record {
+          let below = below_greatest_holds_lem 64 ns arcs j.states j.ran r s sound L W longest heaviest chain.along (record {
             path = chain.path;
             taken = chain.taken;
             ready = subst (Ready ns arcs j.states) (sym chain.ends) ready;

@@ -6,7 +6,7 @@ use Rattle.bounds.specs.declared.plan.Plan.{Plan}
 use Rattle.bounds.specs.Equation.{Caps, sum_to, apart_from, work_ahead_of, held, bound, cap_of, share, share_apart, Solves}
 use Rattle.bounds.proofs.Enough.{bounds_enough_lem}
 use Rattle.bounds.proofs.Sums.{sum_same}
-use Rattle.runs.specs.System.{Held, Bounded}
+use Rattle.timing.specs.System.{Held, Bounded}
 use Rattle.response.specs.System.{Goes, there, number, party_at, numbers_of}
 
 -- a slot that holds a task has a demand

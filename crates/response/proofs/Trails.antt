@@ -1,7 +1,7 @@
 -- Paths with one node more at the end.
 use Rattle.std.proofs.Common.{◌≡◌, ℕ, ◌+◌, sym, refl, subst, arith}
 use Rattle.paths.specs.Paths.{Path, end, step, first, last, Each, Chain}
-use Rattle.held_jobs.specs.Statements.{ran_along}
+use Rattle.jobs.specs.Statements.{ran_along}
 
 -- the path goes on to w
 abbrev pub onward : Path → ℕ → Path

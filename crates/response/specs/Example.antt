@@ -9,8 +9,8 @@ use Rattle.order.specs.Orders.{smaller_slot, slot_cap}
 use Rattle.bounds.specs.declared.plan.Demand.{Demand}
 use Rattle.bounds.specs.declared.plan.Plan.{Plan}
 use Rattle.bounds.specs.Equation.{bound}
-use Rattle.runs.specs.System.{System}
-use Rattle.runs.specs.Run.{State, start, idle, Run}
+use Rattle.timing.specs.System.{System}
+use Rattle.timing.specs.Run.{State, start, idle, Run}
 use Rattle.response.specs.System.{system_of}
 use Rattle.response.specs.Statements.{Planned}
 

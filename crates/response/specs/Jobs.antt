@@ -5,11 +5,11 @@ use Rattle.table.specs.declared.records.Node.{Node}
 use Rattle.task.specs.Graph.{Joined}
 use Rattle.paths.specs.Paths.{Path, last, Each}
 use Rattle.workload.specs.Measures.{PathOf}
-use Rattle.held_jobs.specs.declared.node_state.NodeState.{NodeState}
-use Rattle.held_jobs.specs.Job.{HasEnded, Taken, Ready, Outcome, idle, after, Allowed, released, ran_now, Reached}
-use Rattle.held_jobs.specs.Statements.{ran_along, ran_in_all}
-use Rattle.held_jobs.proofs.Ended.{t_job_ended}
-use Rattle.runs.specs.Jobs.{Turn, Jobs}
+use Rattle.jobs.specs.declared.node_state.NodeState.{NodeState}
+use Rattle.jobs.specs.Job.{HasEnded, Taken, Ready, Outcome, idle, after, Allowed, released, ran_now, Reached}
+use Rattle.jobs.specs.Statements.{ran_along, ran_in_all}
+use Rattle.jobs.proofs.Ended.{t_job_ended}
+use Rattle.timing.specs.Jobs.{Turn, Jobs}
 
 -- how far a job is with each node, and the ticks that each node has run, which the state of an ended node does not tell
 pub record JobState : Type 0 where
@@ -47,10 +47,10 @@ abbrev pub graph_jobs : List Node → List Arc → Jobs Outcome
 graph_jobs ns arcs =
     record {
       State = JobState;
-      fresh = record { states = released; ran = λ v. 0 };
+      fresh = record { states = released 64; ran = λ v. 0 };
       advance = advance;
       ended = λ j. (t_job_ended ns arcs j.states).answer;
-      Sound = λ j. Reached ns arcs j.states j.ran;
+      Sound = λ j. Reached 64 ns arcs j.states j.ran;
       Ready = λ j w. Ready ns arcs j.states w;
       Allows = Allows ns arcs;
       Leads = LeadsTo arcs;

@@ -12,10 +12,10 @@ use Rattle.admission.specs.Demands.{Demands}
 use Rattle.bounds.specs.declared.plan.Demand.{Demand}
 use Rattle.bounds.specs.declared.plan.Plan.{Plan}
 use Rattle.bounds.specs.Equation.{Caps, held, Solves}
-use Rattle.held_jobs.specs.Job.{JobEnded}
-use Rattle.runs.specs.Jobs.{JobLaws}
-use Rattle.runs.specs.Run.{State, start, Run}
-use Rattle.runs.specs.Statements.{Timely, NoOverlap, Ends}
+use Rattle.jobs.specs.Job.{JobEnded}
+use Rattle.timing.specs.Jobs.{JobLaws}
+use Rattle.timing.specs.Run.{State, start, Run}
+use Rattle.timing.specs.Statements.{Timely, NoOverlap, Ends}
 use Rattle.response.specs.Jobs.{JobState, graph_jobs}
 use Rattle.response.specs.System.{Goes, system_of}
 

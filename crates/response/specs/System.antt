@@ -6,8 +6,8 @@ use Rattle.order.specs.declared.Party.{Party}
 use Rattle.bounds.specs.declared.plan.Demand.{Demand}
 use Rattle.bounds.specs.declared.plan.Plan.{Plan}
 use Rattle.bounds.specs.Equation.{Caps, held, bound}
-use Rattle.held_jobs.specs.Job.{Outcome}
-use Rattle.runs.specs.System.{Plan as Numbers, System}
+use Rattle.jobs.specs.Job.{Outcome}
+use Rattle.timing.specs.System.{Plan as Numbers, System}
 use Rattle.response.specs.Jobs.{graph_jobs}
 
 -- who goes ahead of whom

@@ -3,3 +3,4 @@ pub mod Says
 pub mod Selected
 pub mod Found
 pub mod Marked
+pub mod Unions

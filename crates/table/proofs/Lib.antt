@@ -1,5 +1,4 @@
 pub mod Bytes
-mod Parts
 mod Runs
 mod Tables
 mod Stored

@@ -1,5 +1,5 @@
 -- The layout of what stands next in a table: `rest` is what is left after the records counted in `s`. Assumes nothing.
-use Rattle.std.specs.Prelude.{◌≡◌, ℕ, ◌+◌, ◌*◌, ◌<◌, ◌≤◌, ◌≢◌, List, [], length, slice_index}
+use Rattle.std.specs.Prelude.{◌≡◌, ℕ, ◌+◌, ◌*◌, ◌<◌, ◌≤◌, ◌≢◌, List, [], length, slice_index, Ok, Err, Result}
 use Rattle.table.specs.declared.records.Kind.{Kind}
 use Rattle.table.specs.declared.records.Kind.TheVariants.{OfTask, OfNode, OfArc}
 use Rattle.table.specs.declared.reader.Seen.{Seen}
@@ -11,6 +11,11 @@ use Rattle.table.specs.Run.{InTurn, Room}
 -- the number in the two bytes at a place
 abbrev pub told : List ℕ → ℕ → ℕ
 told bytes at = slice_index bytes at + 256 * slice_index bytes (at + 1)
+
+-- the kind that a number names, or the fault that it names none
+abbrev pub KindTold : ℕ → Result Kind LayoutFault → Type 0
+KindTold n (Ok k) = n ≡ number k
+KindTold n (Err f) = (f ≡ UnknownKind n) × ((k : Kind) → n ≢ number k)
 
 -- a whole header stands there, and names this kind
 pub record Named (rest : List ℕ) (k : Kind) : Type 0 where

@@ -3,9 +3,8 @@ use Rattle.std.specs.Prelude.{◌≡◌, ℕ, ◌-◌, ◌<◌, ◌≤◌, List,
 use Rattle.std.specs.List.{flat_map}
 use Rattle.table.specs.declared.records.Timing.{Timing}
 use Rattle.table.specs.declared.records.Node.{Node}
-use Rattle.table.specs.declared.records.NodeList.{NodeList}
 use Rattle.table.specs.declared.records.Arc.{Arc}
-use Rattle.table.specs.declared.records.ArcList.{ArcList}
+use Rattle.table.specs.declared.records.FixedList.{FixedList}
 use Rattle.table.specs.declared.records.Role.TheVariants.{Plain}
 use Rattle.table.specs.declared.records.Region.TheVariants.{Top}
 use Rattle.table.specs.declared.records.Table.{Table}
@@ -39,10 +38,10 @@ table_bytes t ns arcs = encode (task t) ++ (flat_map (λ (n : Node). encode (nod
 abbrev pub padded : {A : Type 0} → ℕ → A → List A → List A
 padded places nothing xs = xs ++ replicate (places - length xs) nothing
 
-abbrev pub node_list : List Node → NodeList
+abbrev pub node_list : List Node → FixedList Node 64
 node_list ns = record { items = padded 64 no_node ns; len = length ns }
 
-abbrev pub arc_list : List Arc → ArcList
+abbrev pub arc_list : List Arc → FixedList Arc 256
 arc_list arcs = record { items = padded 256 no_arc arcs; len = length arcs }
 
 abbrev pub held : Timing → List Node → List Arc → Table

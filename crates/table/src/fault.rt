@@ -67,8 +67,7 @@ impl Fault {
         ensures { result ≡ fault_added self.now }
     {
         match *self {
-            Fault::Layout { offset, .. } => offset,
-            Fault::Range { offset, .. } => offset,
+            Fault::Layout { offset, .. } | Fault::Range { offset, .. } => offset,
         }
     }
 }

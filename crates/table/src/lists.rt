@@ -1,46 +1,30 @@
-// The lists of a table as slices, and one record more.
-ghost use Rattle.std.specs.Prelude.{◌≡◌, ◌+◌, ◌<◌, take, slice_set};
+// Lists in fixed memory, as slices and with one item more.
+ghost use Rattle.std.specs.Prelude.{◌≡◌, ◌+◌, ◌<◌, [], length, take, replicate, slice_set};
 
-use crate::records::{Arc, ArcList, Node, NodeList};
+use crate::records::FixedList;
 
-impl NodeList {
-    pub fn as_slice(&self) -> &[Node]
-        ensures { result.now ≡ take self.now.len self.now.items }
+impl<T: Copy, const N: usize> FixedList<T, N> {
+    // No item, with `nothing` in the unused places.
+    pub(crate) fn empty(nothing: T) -> FixedList<T, N>
+        ensures { result ≡ record { items = replicate N nothing; len = 0 } }
     {
-        let nodes = &self.items[..];
-        if self.len < nodes.len() {
-            &nodes[0..self.len]
-        } else {
-            nodes
+        FixedList {
+            items: [nothing; N],
+            len: 0,
         }
     }
 
-    pub(crate) fn push(&mut self, node: Node)
-        requires { self.old.len < 64 }
-        ensures { self.new ≡ record { items = slice_set self.old.items self.old.len node; len = self.old.len + 1 } }
-    {
-        self.items[self.len] = node;
-        self.len += 1;
-    }
-}
-
-impl ArcList {
-    pub fn as_slice(&self) -> &[Arc]
+    pub fn as_slice(&self) -> &[T]
         ensures { result.now ≡ take self.now.len self.now.items }
     {
-        let arcs = &self.items[..];
-        if self.len < arcs.len() {
-            &arcs[0..self.len]
-        } else {
-            arcs
-        }
+        &self.items[..self.len.min(N)]
     }
 
-    pub(crate) fn push(&mut self, arc: Arc)
-        requires { self.old.len < 256 }
-        ensures { self.new ≡ record { items = slice_set self.old.items self.old.len arc; len = self.old.len + 1 } }
+    pub(crate) fn push(&mut self, item: T)
+        requires { self.old.len < N }
+        ensures { self.new ≡ record { items = slice_set self.old.items self.old.len item; len = self.old.len + 1 } }
     {
-        self.items[self.len] = arc;
+        self.items[self.len] = item;
         self.len += 1;
     }
 }

@@ -46,19 +46,16 @@ pub struct Timing {
     pub deadline: u32,
 }
 
-// The first `len` of the items are a task's nodes.
+// At most N items, in fixed memory: the first `len` of the items. No ArrayVec of the kit, which isn't Copy as a table is.
 #[derive(Clone, Copy, Debug, PartialEq, Eq, Drop)]
-pub struct NodeList {
-    pub items: [Node; 64],
+pub struct FixedList<T, const N: usize> {
+    pub items: [T; N],
     pub len: usize,
 }
 
-// The first `len` of the items are a task's arcs.
-#[derive(Clone, Copy, Debug, PartialEq, Eq, Drop)]
-pub struct ArcList {
-    pub items: [Arc; 256],
-    pub len: usize,
-}
+pub type NodeList = FixedList<Node, 64>;
+
+pub type ArcList = FixedList<Arc, 256>;
 
 // The records of a table.
 #[derive(Clone, Copy, Debug, PartialEq, Eq, Drop)]

@@ -1,8 +1,24 @@
 -- One tick of one open job: each ready node has a chain that keeps up with the time.
-use Rattle.std.proofs.Common.{◌≡◌, ℕ, suc, ◌+◌, ◌-◌, ◌*◌, ◌<◌, ◌≤◌, eqb, ◌⊎◌, List, length, inl, inr, mul-le-mul_left, arith}
-use Rattle.std.proofs.lemmas.Bool.{cases_lt}
-use Rattle.timing.specs.Jobs.{Jobs, JobLaws, Turn, turns_of, Fair}
+use Rattle.std.proofs.Common.{◌≡◌, ℕ, suc, ◌+◌, ◌-◌, ◌*◌, ◌<◌, ◌≤◌, Bool, true, false, eqb, ◌⊎◌, List, [], ◌∷◌, length, sym, refl, subst, inl, inr, mul-le-mul_left, arith}
+use Rattle.std.proofs.lemmas.Bool.{cases_lt, eqb-true}
+use Rattle.std.specs.List.{AllByRecursion}
+use Rattle.timing.specs.Counts.{bit}
+use Rattle.timing.specs.Jobs.{Jobs, JobLaws, Turn, turns_of, MayHave, Fair}
 use Rattle.timing.proofs.Counting.{count_if_length}
+use Rattle.timing.proofs.Logs.{all_weaker}
+
+-- what holds of every turn's node holds of a node with a turn
+pub node_with_turn : {O : Type 0} (P : ℕ → Type 0) (ts : List (Turn O)) → AllByRecursion (λ t. P t.node) ts → (v : ℕ) → 1 ≤ turns_of v ts → P v
+node_with_turn P [] all v h = absurd (omega arith)
+node_with_turn P (t ∷ ts) all v h = go (eqb v t.node) refl h (node_with_turn P ts all.1 v)
+  where
+    go : (b : Bool) → eqb v t.node ≡ b → 1 ≤ bit b + turns_of v ts → (1 ≤ turns_of v ts → P v) → P v
+    go true e some rest = subst P (sym (eqb-true v t.node e)) all.0
+    go false e some rest = rest (omega arith)
+
+-- a node with a turn is ready
+pub turn_ready : {O : Type 0} (J : Jobs O) (j : J.State) (ts : List (Turn O)) → Fair J j ts → (v : ℕ) → 1 ≤ turns_of v ts → J.Ready j v
+turn_ready J j ts fair = node_with_turn (J.Ready j) ts (all_weaker (MayHave J j) (λ t. J.Ready j t.node) (λ t h. h.0) ts fair.allowed)
 
 -- A chain to w that has kept up with the time t since the release at r, but for the core-ticks I that others used.
 abbrev pub KeptUp : {O : Type 0} (J : Jobs O) → ℕ → ℕ → ℕ → ℕ → J.State → ℕ → Type 0
@@ -23,7 +39,7 @@ pub still_young : (p m t r o i c Z X R : ℕ) → m ≡ suc p → m * t ≤ m * 
 still_young p m t r o i c Z X R e h weight others enough =
     elim (cases_lt t (r + R)) [ inl l ↦ l | inr l ↦ absurd (omega (arith, mul-le-mul_left m l)) ]
 
-module _ {O : Type 0} (J : Jobs O) (m W Z : ℕ) (laws : JobLaws J m W Z) (cores : 1 ≤ m) (t r I I' : ℕ) (j : J.State) (ts : List (Turn O)) (sound : J.Sound j) (fair : Fair (J.Ready j) ts) (grown : I ≤ I') where
+module _ {O : Type 0} (J : Jobs O) (m W Z : ℕ) (laws : JobLaws J m W Z) (cores : 1 ≤ m) (t r I I' : ℕ) (j : J.State) (ts : List (Turn O)) (sound : J.Sound j) (fair : Fair J j ts) (grown : I ≤ I') where
   some_turn : (v : ℕ) → 1 ≤ turns_of v ts → 1 ≤ length ts
   some_turn v h = omega (arith, count_if_length {X = Turn O} (λ u. eqb v u.node) ts)
 
@@ -65,4 +81,6 @@ module _ {O : Type 0} (J : Jobs O) (m W Z : ℕ) (laws : JobLaws J m W Z) (cores
 
       from : J.Ready j w ⊎ ((v : ℕ) × (1 ≤ turns_of v ts) × J.Leads (J.advance j ts) v w) → KeptUp J m (suc t) r I' (J.advance j ts) w
       from (inl was) = was_ready was
-      from (inr h) = chain_longer h.0 w ((fair h.0).1 h.1) h.1 h.2 is (chains h.0 ((fair h.0).1 h.1))
+      from (inr h) =
+          let ran = turn_ready J j ts fair h.0 h.1 in
+          chain_longer h.0 w ran h.1 h.2 is (chains h.0 ran)

@@ -3,7 +3,9 @@ use Rattle.std.proofs.Common.{◌≡◌, ℕ, zero, suc, ◌+◌, ◌*◌, ◌<�
 use Rattle.std.proofs.lemmas.Bool.Decides.{nat_tests}
 use Rattle.std.proofs.lemmas.Bool.{cases_eq}
 use Rattle.std.specs.List.{AllByRecursion}
-use Rattle.timing.specs.Counts.{bit, count_if, times, sum_of, sum_to, apart_from, div_ceil}
+use Rattle.bounds.specs.Equation.{sum_to, apart_from}
+use Rattle.bounds.proofs.Sums.{sum_mono}
+use Rattle.timing.specs.Counts.{bit, count_if, times, sum_of}
 use Rattle.timing.specs.Window.{in_window}
 
 pub count_if_mono : {X : Type 0} (p q : X → Bool) (Q : X → Type 0) → ((x : X) → Q x → bit (p x) ≤ bit (q x)) → (xs : List X) → AllByRecursion Q xs → count_if p xs ≤ count_if q xs
@@ -42,15 +44,13 @@ pub sum_of_mono : {X : Type 0} (f g : X → ℕ) → ((x : X) → f x ≤ g x) �
 sum_of_mono f g h [] = omega arith
 sum_of_mono f g h (x ∷ xs) = omega (arith, h x, sum_of_mono f g h xs)
 
-pub sum_to_mono : (n : ℕ) (f g : ℕ → ℕ) → ((i : ℕ) → i < n → f i ≤ g i) → sum_to n f ≤ sum_to n g
-sum_to_mono zero f g h = omega arith
-sum_to_mono (suc n) f g h = omega (arith, h n (omega arith), sum_to_mono n f g (λ i l. h i (omega arith)))
-
 pub sum_to_add : (n : ℕ) (f g : ℕ → ℕ) → sum_to n (λ i. f i + g i) ≡ sum_to n f + sum_to n g
+unfolding sum_to
 sum_to_add zero f g = omega arith
 sum_to_add (suc n) f g = omega (arith, sum_to_add n f g)
 
 pub sum_to_none : (n : ℕ) → sum_to n (λ i. 0) ≡ 0
+unfolding sum_to
 sum_to_none zero = refl
 sum_to_none (suc n) = omega (arith, sum_to_none n)
 
@@ -60,15 +60,14 @@ apart_same k f = grind (arith, nat_tests)
 pub apart_other : (k i : ℕ) (f : ℕ → ℕ) → (i ≡ k → ⊥) → apart_from k f i ≡ f i
 apart_other k i f h = grind (arith, nat_tests)
 
-pub apart_le : (k i : ℕ) (f : ℕ → ℕ) → apart_from k f i ≤ f i
-apart_le k i f = grind (arith, nat_tests)
-
 sum_to_apart_above : (n k : ℕ) (f : ℕ → ℕ) → n ≤ k → sum_to n (apart_from k f) ≡ sum_to n f
+unfolding sum_to
 sum_to_apart_above zero k f h = refl
 sum_to_apart_above (suc n) k f h = omega (arith, apart_other k n f (omega arith), sum_to_apart_above n k f (omega arith))
 
 -- a sum is one term and the others
 pub sum_to_split : (n k : ℕ) (f : ℕ → ℕ) → k < n → sum_to n f ≡ f k + sum_to n (apart_from k f)
+unfolding sum_to
 sum_to_split zero k f h = omega arith
 sum_to_split (suc n) k f h = elim (cases_eq n k) [ inl e ↦ at_last e | inr ne ↦ omega (arith, apart_other k n f ne, sum_to_split n k f (omega arith)) ]
   where
@@ -77,12 +76,13 @@ sum_to_split (suc n) k f h = elim (cases_eq n k) [ inl e ↦ at_last e | inr ne 
 
 -- the sum over the others is monotone
 pub others_mono : (n k : ℕ) (f g : ℕ → ℕ) → ((i : ℕ) → i < n → (i ≡ k → ⊥) → f i ≤ g i) → sum_to n (apart_from k f) ≤ sum_to n (apart_from k g)
-others_mono n k f g h = sum_to_mono n (apart_from k f) (apart_from k g) (λ i l. elim (cases_eq i k) [ inl e ↦ same i e | inr ne ↦ omega (arith, apart_other k i f ne, apart_other k i g ne, h i l ne) ])
+others_mono n k f g h = sum_mono n (apart_from k f) (apart_from k g) (λ i l. elim (cases_eq i k) [ inl e ↦ same i e | inr ne ↦ omega (arith, apart_other k i f ne, apart_other k i g ne, h i l ne) ])
   where
     same : (i : ℕ) → i ≡ k → apart_from k f i ≤ apart_from k g i
     same i e = omega (arith, ap (apart_from k f) e, ap (apart_from k g) e, apart_same k f, apart_same k g)
 
 others_add : (n k : ℕ) (f g : ℕ → ℕ) → sum_to n (apart_from k (λ i. f i + g i)) ≡ sum_to n (apart_from k f) + sum_to n (apart_from k g)
+unfolding sum_to
 others_add zero k f g = omega arith
 others_add (suc n) k f g = omega (arith, here, others_add n k f g)
   where
@@ -93,12 +93,9 @@ others_add (suc n) k f g = omega (arith, here, others_add n k f g)
 pub others_grow : (n k : ℕ) (f g c : ℕ → ℕ) → ((i : ℕ) → i < n → (i ≡ k → ⊥) → f i + c i ≤ g i) → sum_to n (apart_from k f) + sum_to n (apart_from k c) ≤ sum_to n (apart_from k g)
 others_grow n k f g c h = omega (arith, others_add n k f c, others_mono n k (λ i. f i + c i) g h)
 
--- a quotient rounded up is large enough
-pub div_up_enough : (a b : ℕ) → 1 ≤ b → a ≤ b * div_ceil a b
-div_up_enough a b h = omega arith
-
 -- one of the numbers below n is v
 pub one_node : (n v : ℕ) → v < n → sum_to n (λ u. bit (eqb u v)) ≡ 1
+unfolding sum_to
 one_node zero v l = absurd (omega arith)
 one_node (suc n) v l = elim (cases_eq n v) [ inl e ↦ last e | inr ne ↦ omega (arith, other ne, one_node n v (omega arith)) ]
   where

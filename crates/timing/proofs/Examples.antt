@@ -1,55 +1,19 @@
 -- The example meets what the theorem assumes, and runs.
-use Rattle.std.proofs.Common.{◌≡◌, ℕ, zero, suc, ◌+◌, ◌*◌, ◌<◌, ◌≤◌, Bool, true, false, cond, ◌&&◌, eqb, ltb, ◌⊎◌, List, [], ◌∷◌, length, ℤ, pos, neg_ℤ, ◌<ℤ◌, Some, None, refl, subst, inl, inr, arith, lit<, lit≤}
+use Rattle.std.proofs.Common.{◌≡◌, ℕ, zero, suc, ◌+◌, ◌*◌, ◌<◌, ◌≤◌, Bool, true, ◌&&◌, eqb, ltb, ◌⊎◌, List, [], ◌∷◌, refl, subst, inl, inr, arith, lit<, lit≤}
 use Rattle.std.proofs.lemmas.Bool.Decides.{nat_tests}
 use Rattle.std.proofs.lemmas.Bool.{and_parts, ltb-true}
 use Rattle.std.specs.List.{AllByRecursion}
-use Rattle.order.specs.Laws.{AtMost, Orderly}
-use Rattle.order.specs.Orders.{smaller_slot, slot_cap}
-use Rattle.timing.specs.Counts.{bit, sum_to, apart_from}
-use Rattle.timing.specs.Jobs.{JobLaws}
+use Rattle.bounds.specs.Equation.{sum_to, apart_from}
+use Rattle.bounds.proofs.Cases.{fixed}
+use Rattle.timing.specs.Counts.{bit}
+use Rattle.timing.specs.Jobs.{LawsIn}
 use Rattle.timing.specs.System.{share}
-use Rattle.timing.specs.Run.{State, start, release, Place, places_of, ReadyAt, GoesAhead, MayTick, tick, begun, released, ticked}
+use Rattle.timing.specs.Run.{State, start, release, Place, places_of, ReadyAt, MayHaveAt, GoesAhead, MayTick, tick, begun, released, ticked}
 use Rattle.timing.specs.Example.{two_tasks, example, ExampleBounded, ExampleRuns}
+use Rattle.timing.specs.Freely.{ReadyOnce, SoundFreely, ExampleRespondsFreely, ExampleRunsFreely}
+use Rattle.timing.proofs.Freely.{laws_allowing, responds_freely, run_freely}
 use Rattle.timing.proofs.Invariant.{responds}
 use Rattle.timing.proofs.Lanes.{lanes_laws}
-
--- ---- the order
-
-one_first : (a b : ℕ) → (a ≡ b → ⊥) → (ltb a b ≡ true) ⊎ (ltb b a ≡ true)
-one_first a b ne = go (ltb a b) refl
-  where
-    other : ltb a b ≡ false → ltb b a ≡ true
-    other e = grind (arith, nat_tests)
-
-    go : (t : Bool) → ltb a b ≡ t → (ltb a b ≡ true) ⊎ (ltb b a ≡ true)
-    go true e = inl e
-    go false e = inr (other e)
-
-on_and_on : (a b c : ℕ) → ltb a b ≡ true → ltb b c ≡ true → ltb a c ≡ true
-on_and_on a b c h k = grind (arith, nat_tests)
-
-none_pass : (R : ℕ) (ds : List ℤ) → AllByRecursion (λ d. (neg_ℤ (pos R) <ℤ d) × (false ≡ true)) ds → length ds ≤ 0
-none_pass R [] a = omega arith
-none_pass R (d ∷ ds) a = absurd (grind (arith, a.0.1))
-
-capped_when : (b : Bool) (R c : ℕ) → cond b None (Some 0) ≡ Some c → (ds : List ℤ) → AllByRecursion (λ d. (neg_ℤ (pos R) <ℤ d) × (b ≡ true)) ds → length ds ≤ c
-capped_when true R c e ds a = absurd (let z : ◌≡◌ {A = ℕ} 0 1 = cc in omega arith)
-capped_when false R c e ds a =
-    let z : 0 ≡ c = cc in
-    omega (arith, none_pass R ds a)
-
-same_cap : (b : Bool) → AtMost (cond b None (Some 0)) (cond b None (Some 0))
-same_cap true = tt
-same_cap false = lit≤ tt
-
-smaller_orderly : Orderly smaller_slot slot_cap
-smaller_orderly =
-    record {
-      total = λ i k li lk ne d. one_first i.slot k.slot ne;
-      transitive = λ i k l li lk ll ik kl il d e h g. on_and_on i.slot k.slot l.slot h g;
-      capped = λ i k li lk ne R c lo hi e ds sp a. capped_when (ltb i.slot k.slot) R c e ds a;
-      rising = λ i k li lk ne R S lo le hi. same_cap (ltb i.slot k.slot);
-    }
 
 -- ---- the bounds and the jobs
 
@@ -58,33 +22,43 @@ below_two P a b zero l = a
 below_two P a b (suc zero) l = b
 below_two P a b (suc (suc k)) l = absurd (omega arith)
 
+sound_freely : SoundFreely example
+sound_freely k h =
+    below_two (λ i. LawsIn (example.jobs i) (λ j ts. (example.jobs i).Sound j × ReadyOnce ((example.jobs i).Ready j) ts) 2 2 (two_tasks.weight i))
+    (lanes_laws 2 2 1 (lit≤ tt)) (lanes_laws 2 1 2 (lit≤ tt)) k h.0
+
 pub example_bounded : ExampleBounded
+unfolding sum_to
 example_bounded = (
   record {
     some_core = lit≤ tt;
-    orderly = smaller_orderly;
+    orderly = fixed;
     lawful = λ k h. record { slotted = omega (arith, h.0); some_deadline = lit≤ tt; in_period = lit≤ tt; in_range = lit≤ tt };
     in_slot = λ k h. refl;
     some_bound = λ k h. below_two (λ i. 1 ≤ two_tasks.bound i) (lit≤ tt) (lit≤ tt) k h.0;
     in_deadline = λ k h. below_two (λ i. two_tasks.bound i ≤ 10) (lit≤ tt) (lit≤ tt) k h.0;
     enough = λ k h. below_two (λ i. two_tasks.weight i + sum_to 2 (apart_from i (share two_tasks i)) < 2 * (two_tasks.bound i + 1)) (lit< tt) (lit< tt) k h.0;
   },
-  λ k h. below_two (λ i. JobLaws (example.jobs i) 2 2 (two_tasks.weight i)) (lanes_laws 2 2 1 (lit≤ tt)) (lanes_laws 2 1 2 (lit≤ tt)) k h.0,
+  λ k h. laws_allowing (example.jobs k) (example.jobs k).Allows 2 2 (two_tasks.weight k) (sound_freely k h),
   responds example,
 )
 
+pub example_responds_freely : ExampleRespondsFreely
+example_responds_freely = (sound_freely, responds_freely example)
+
 -- ---- the run
 
-abbrev place : ℕ → ℕ → Place ℕ
-place k v = record { slot = k; turn = record { node = v; outcome = 0 } }
+-- the node v of slot k has its nth tick
+abbrev place : ℕ → ℕ → ℕ → Place ℕ
+place k v n = record { slot = k; turn = record { node = v; outcome = n } }
 
 -- slot 0 has both cores
 abbrev both : List (Place ℕ)
-both = place 0 0 ∷ place 0 1 ∷ []
+both = place 0 0 1 ∷ place 0 1 1 ∷ []
 
 -- slot 1 has one
-abbrev alone : List (Place ℕ)
-alone = place 1 0 ∷ []
+abbrev alone : ℕ → List (Place ℕ)
+alone n = place 1 0 n ∷ []
 
 both_once : (k v : ℕ) → bit (eqb k 0 && eqb v 0) + (bit (eqb k 0 && eqb v 1) + 0) ≤ 1
 both_once k v = grind (arith, nat_tests)
@@ -99,47 +73,52 @@ abbrev after_one : State example
 after_one = tick example both both_open
 
 abbrev after_two : State example
-after_two = tick example alone after_one
+after_two = tick example (alone 1) after_one
 
 first_tick : MayTick example both_open both
 first_tick =
     record {
-      ready = ((lit< tt, refl), ((lit< tt, refl), tt));
+      allowed = ((lit< tt, (refl, refl)), ((lit< tt, (refl, refl)), tt));
       once = both_once;
       few = lit≤ tt;
       work_conserving = λ k w h ready missed.
           (refl, below_two (λ i. AllByRecursion (λ c. (c.slot ≡ i) ⊎ GoesAhead example both_open c.slot i) both) (inl refl, (inl refl, tt)) (inr refl, (inr refl, tt)) k h.0);
     }
 
-alone_ticks : (s : State example) → ReadyAt (example.jobs 1) 0 (s.slot 1) → ((w : ℕ) → ReadyAt (example.jobs 0) w (s.slot 0) → ⊥)
-    → ((w : ℕ) → ReadyAt (example.jobs 1) w (s.slot 1) → w ≡ 0) → MayTick example s alone
-alone_ticks s ready idles only =
+alone_ticks : (s : State example) (n : ℕ) → MayHaveAt (example.jobs 1) (record { node = 0; outcome = n }) (s.slot 1) → ((w : ℕ) → ReadyAt (example.jobs 0) w (s.slot 0) → ⊥)
+    → ((w : ℕ) → ReadyAt (example.jobs 1) w (s.slot 1) → w ≡ 0) → MayTick example s (alone n)
+alone_ticks s n allowed idles only =
     record {
-      ready = ((lit< tt, ready), tt);
+      allowed = ((lit< tt, allowed), tt);
       once = alone_once;
       few = lit≤ tt;
       work_conserving = λ k w h at missed.
-          absurd (below_two (λ i. ReadyAt (example.jobs i) w (s.slot i) → places_of i w alone ≡ 0 → ⊥) (λ r m. idles w r) (placed w) k h.0 at missed);
+          absurd (below_two (λ i. ReadyAt (example.jobs i) w (s.slot i) → places_of i w (alone n) ≡ 0 → ⊥) (λ r m. idles w r) (placed w) k h.0 at missed);
     }
   where
-    placed : (w : ℕ) → ReadyAt (example.jobs 1) w (s.slot 1) → places_of 1 w alone ≡ 0 → ⊥
+    placed : (w : ℕ) → ReadyAt (example.jobs 1) w (s.slot 1) → places_of 1 w (alone n) ≡ 0 → ⊥
     placed w r m =
-        let z : places_of 1 0 alone ≡ 0 = subst (λ (u : ℕ). places_of 1 u alone ≡ 0) (only w r) m in
+        let z : places_of 1 0 (alone n) ≡ 0 = subst (λ (u : ℕ). places_of 1 u (alone n) ≡ 0) (only w r) m in
         omega (arith, z)
 
 first_node : (w : ℕ) (b : Bool) → (ltb w 1 && b) ≡ true → w ≡ 0
 first_node w b h = omega (arith, ltb-true w 1 (and_parts (ltb w 1) b h).0)
 
-second_tick : MayTick example after_one alone
-second_tick = alone_ticks after_one refl (λ w h. h) (λ w h. first_node w _ h)
+second_tick : MayTick example after_one (alone 1)
+second_tick = alone_ticks after_one 1 (refl, refl) (λ w h. h) (λ w h. first_node w _ h)
 
-third_tick : MayTick example after_two alone
-third_tick = alone_ticks after_two refl (λ w h. h) (λ w h. first_node w _ h)
+third_tick : MayTick example after_two (alone 2)
+third_tick = alone_ticks after_two 2 (refl, refl) (λ w h. h) (λ w h. first_node w _ h)
 
 pub example_runs_lem : ExampleRuns
 example_runs_lem = (
-  tick example alone after_two,
-  ticked alone (ticked alone (ticked both (released 1 (released 0 begun ((lit< tt, refl), tt)) ((lit< tt, refl), tt)) first_tick) second_tick) third_tick,
+  tick example (alone 2) after_two,
+  ticked (alone 2) (ticked (alone 1) (ticked both (released 1 (released 0 begun ((lit< tt, refl), tt)) ((lit< tt, refl), tt)) first_tick) second_tick) third_tick,
   refl,
   refl,
 )
+
+pub example_runs_freely : ExampleRunsFreely
+example_runs_freely =
+    let (s, run, first, second) = example_runs_lem in
+    (s, run_freely example (start example) s run, first, second)

@@ -4,9 +4,10 @@ use Rattle.std.proofs.lemmas.Int.{ints}
 use Rattle.std.proofs.lemmas.Bool.{cases_lt, ltb-true}
 use Rattle.std.specs.List.{AllByRecursion}
 use Rattle.order.specs.Laws.{Different, SpreadBefore, Spread}
-use Rattle.timing.specs.Counts.{bit, count_if, sum_of, sum_to, apart_from}
-use Rattle.timing.specs.Window.{Job, Fits, ApartBefore, Apart, jobs_in, used_ahead, reaches}
-use Rattle.timing.specs.System.{Plan, Held, Bounded, capped, share}
+use Rattle.bounds.specs.Equation.{sum_to, apart_from, capped, jobs_in}
+use Rattle.timing.specs.Counts.{bit, count_if, sum_of}
+use Rattle.timing.specs.Window.{Job, Fits, ApartBefore, Apart, used_ahead, reaches}
+use Rattle.timing.specs.System.{Plan, Held, Bounded, share}
 use Rattle.timing.proofs.Counting.{others_mono}
 use Rattle.timing.proofs.Windows.{window_bounded, ahead_bounded, ahead_le_all}
 

@@ -1,10 +1,9 @@
 -- What holds in every state of a run, and the response-time theorem.
 use Rattle.std.proofs.Common.{◌≡◌, ℕ, suc, ◌+◌, ◌-◌, ◌<◌, ◌≤◌, Bool, true, false, cond, eqb, ◌⊎◌, List, [], ◌∷◌, ◌++◌, length, replicate, sym, refl, ap, subst, inl, inr, arith}
 use mathlib.Core.Path.{fun_ext}
-use Rattle.std.proofs.lemmas.Bool.Decides.{nat_tests}
-use Rattle.std.proofs.lemmas.Bool.{cases_lt, eqb-true}
+use Rattle.std.proofs.lemmas.Bool.{cases_lt, eq-eqb, eqb-true}
 use Rattle.std.specs.List.{AllByRecursion}
-use Rattle.timing.specs.Counts.{sum_to, apart_from}
+use Rattle.bounds.specs.Equation.{sum_to, apart_from}
 use Rattle.timing.specs.Window.{Job, Fits, ApartBefore, Apart}
 use Rattle.timing.specs.Jobs.{Jobs, Turn, Fair}
 use Rattle.timing.specs.System.{Held, Bounded, share, System, SoundJobs}
@@ -152,11 +151,11 @@ turns_few : (y : System) (turns : Turns y) (k : ℕ) → k < y.plan.slots → le
 turns_few y turns k l = omega (arith, sum_to_split y.plan.slots k (λ i. length (turns i)) l)
 
 module _ (y : System) (laws : SoundJobs y) (k t : ℕ) (kn : Held y.plan k) (ts : List (Turn y.Outcome)) (few : length ts ≤ y.plan.cores) where
-  worked_short : (r : ℕ) (sp : List ℕ) (j : (y.jobs k).State) (past : List Done) → OpenOk y k t r sp j past → Fair ((y.jobs k).Ready j) ts →
+  worked_short : (r : ℕ) (sp : List ℕ) (j : (y.jobs k).State) (past : List Done) → OpenOk y k t r sp j past → Fair (y.jobs k) j ts →
       length (replicate (length ts) t ++ sp) ≡ (y.jobs k).own ((y.jobs k).advance j ts)
   worked_short r sp j past ok fair = omega (arith, length_more (length ts) t sp, ok.counted, (laws k kn).own_grows j ts (ok.sound, fair))
 
-  worked_fits : (r : ℕ) (sp : List ℕ) (j : (y.jobs k).State) (past : List Done) → OpenOk y k t r sp j past → Fair ((y.jobs k).Ready j) ts →
+  worked_fits : (r : ℕ) (sp : List ℕ) (j : (y.jobs k).State) (past : List Done) → OpenOk y k t r sp j past → Fair (y.jobs k) j ts →
       Fits y.plan.cores (y.plan.work k) (y.plan.bound k) (record { released = r; spent = replicate (length ts) t ++ sp })
   worked_fits r sp j past ok fair =
       fits_more y.plan.cores (y.plan.work k) (y.plan.bound k) (length ts) t r sp few
@@ -215,7 +214,7 @@ module _ (y : System) (laws : SoundJobs y) (law : Bounded y.plan) (s : State y) 
 
   module _ (k : ℕ) (kn : Held y.plan k) where
     -- the open job's chains after the tick
-    worked_chains : (r : ℕ) (sp : List ℕ) (j : (y.jobs k).State) (past : List Done) → OpenOk y k s.now r sp j past → Fair ((y.jobs k).Ready j) (turns k) →
+    worked_chains : (r : ℕ) (sp : List ℕ) (j : (y.jobs k).State) (past : List Done) → OpenOk y k s.now r sp j past → Fair (y.jobs k) j (turns k) →
         Conserving y s turns k (busy r sp j past) → Progress y (logs y s) k s.now (busy r sp j past) →
         (w : ℕ) → (y.jobs k).Ready ((y.jobs k).advance j (turns k)) w → KeptUp (y.jobs k) y.plan.cores (suc s.now) r (interference y.plan after k r) ((y.jobs k).advance j (turns k)) w
     worked_chains r sp j past ok fair conserving progress =
@@ -233,7 +232,7 @@ module _ (y : System) (laws : SoundJobs y) (law : Bounded y.plan) (s : State y) 
         (omega (arith, law.some_core)) p.2 ((laws k kn).close j sound w.0 p.0 w.1 p.1)
         (interference_bounded y.plan law (λ i h. (laws i h).work_in_weight) after k r kn after_ok) (law.enough k kn)
 
-    settled_ok : (b : Bool) (r : ℕ) (sp : List ℕ) (j : (y.jobs k).State) (past : List Done) → OpenOk y k s.now r sp j past → Fair ((y.jobs k).Ready j) (turns k) →
+    settled_ok : (b : Bool) (r : ℕ) (sp : List ℕ) (j : (y.jobs k).State) (past : List Done) → OpenOk y k s.now r sp j past → Fair (y.jobs k) j (turns k) →
         (y.jobs k).ended ((y.jobs k).advance j (turns k)) ≡ b →
         ((w : ℕ) → (y.jobs k).Ready ((y.jobs k).advance j (turns k)) w → KeptUp (y.jobs k) y.plan.cores (suc s.now) r (interference y.plan after k r) ((y.jobs k).advance j (turns k)) w) →
         SlotOk y k (suc s.now) (settle b (suc s.now) r (replicate (length (turns k)) s.now ++ sp) ((y.jobs k).advance j (turns k)) past)
@@ -357,12 +356,23 @@ module _ (y : System) (law : Bounded y.plan) (laws : SoundJobs y) (s : State y) 
   ends k may u run late =
       known_ended (y.plan.bound k) u.now s.now (u.slot k) late
       (timely_slot y k u.now (u.slot k) ((run_inv y laws law (release y k s) u (release_inv y laws law s k may inv) run).ok k may.0))
-      (run_known y k s.now (release y k s) u (begin_new s.now (y.jobs k).fresh (eqb k k) (s.slot k) (same k) (no_overlap k may)) run)
-    where
-      same : (n : ℕ) → eqb n n ≡ true
-      same n = grind (arith, nat_tests)
+      (run_known y k s.now (release y k s) u (begin_new s.now (y.jobs k).fresh (eqb k k) (s.slot k) (eq-eqb k k refl) (no_overlap k may)) run)
 
 pub responds : (y : System) → Responds y
 responds y law laws s run =
     let inv = run_inv y laws law (start y) s (start_inv y) run in
     (ends y law laws s inv, timely y law laws s inv, no_overlap y law laws s inv)
+
+-- ---- the open jobs of a run
+
+-- the job's state is one that jobs can reach
+abbrev pub SoundSlot : {O : Type 0} (J : Jobs O) → Slot J.State → Type 0
+SoundSlot J (idle past) = Unit {0}
+SoundSlot J (busy r sp j past) = J.Sound j
+
+sound_slot : (y : System) (k t : ℕ) (x : Slot (y.jobs k).State) → SlotOk y k t x → SoundSlot (y.jobs k) x
+sound_slot y k t (idle past) ok = tt
+sound_slot y k t (busy r sp j past) ok = ok.sound
+
+pub run_sound : (y : System) → Bounded y.plan → SoundJobs y → (s : State y) → Run y (start y) s → (k : ℕ) → Held y.plan k → SoundSlot (y.jobs k) (s.slot k)
+run_sound y law laws s run k h = sound_slot y k s.now (s.slot k) ((run_inv y laws law (start y) s (start_inv y) run).ok k h)

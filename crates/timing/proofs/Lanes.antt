@@ -1,11 +1,14 @@
 -- Nodes side by side keep the laws of jobs.
 use Rattle.std.proofs.Common.{◌≡◌, ℕ, zero, suc, ◌+◌, ◌-◌, ◌*◌, ◌<◌, ◌≤◌, Bool, true, false, ◌&&◌, eqb, ltb, leb, List, [], ◌∷◌, length, refl, ap, ◌∙◌, inl, inr, arith}
 use Rattle.std.proofs.lemmas.Bool.Decides.{nat_tests}
-use Rattle.std.proofs.lemmas.Bool.{cases_lt, cases_eq, and_parts, leb-true, leb-false, ltb-true, eqb-true}
-use Rattle.timing.specs.Counts.{bit, sum_to, all_below}
-use Rattle.timing.specs.Jobs.{JobLaws, Turn, turns_of, Ticks}
+use Rattle.std.proofs.lemmas.Bool.{cases_lt, cases_eq, and_parts, and_from, le-leb, leb-true, leb-false, ltb-true, eqb-true}
+use Rattle.bounds.specs.Equation.{sum_to}
+use Rattle.bounds.proofs.Sums.{sum_small}
+use Rattle.timing.specs.Counts.{bit, all_below}
+use Rattle.timing.specs.Jobs.{LawsIn, Turn, turns_of}
 use Rattle.timing.specs.Statements.{jobs_of}
 use Rattle.timing.specs.Example.{lanes}
+use Rattle.timing.specs.Freely.{ReadyOnce}
 use Rattle.timing.proofs.Weights.{weighs, work_weighs}
 use Rattle.timing.proofs.Counting.{sum_to_add, sum_to_none, sum_to_split, others_mono, one_node}
 
@@ -19,10 +22,7 @@ all_have (suc n) p h v l =
 
 all_made : (n : ℕ) (p : ℕ → Bool) → ((v : ℕ) → v < n → p v ≡ true) → all_below n p ≡ true
 all_made zero p h = refl
-all_made (suc n) p h = both (p n) (all_below n p) (h n (omega arith)) (all_made n p (λ v l. h v (omega arith)))
-  where
-    both : (a b : Bool) → a ≡ true → b ≡ true → (a && b) ≡ true
-    both a b e f = grind arith
+all_made (suc n) p h = and_from (p n) (all_below n p) (h n (omega arith)) (all_made n p (λ v l. h v (omega arith)))
 
 some_fails : (n : ℕ) (p : ℕ → Bool) → all_below n p ≡ false → (w : ℕ) × (w < n) × (p w ≡ false)
 some_fails zero p h = absurd (grind arith)
@@ -35,12 +35,9 @@ some_fails (suc n) p h = go (p n) refl h (some_fails n p)
 -- ---- sums
 
 sum_const : (n c : ℕ) → sum_to n (λ v. c) ≡ n * c
+unfolding sum_to
 sum_const zero c = omega arith
 sum_const (suc n) c = omega (arith, sum_const n c)
-
-sum_small : (n c : ℕ) (f : ℕ → ℕ) → ((v : ℕ) → v < n → f v ≤ c) → sum_to n f ≤ n * c
-sum_small zero c f h = omega arith
-sum_small (suc n) c f h = omega (arith, h n (omega arith), sum_small n c f (λ v l. h v (omega arith)))
 
 sum_smaller : (n c w : ℕ) (f : ℕ → ℕ) → ((v : ℕ) → v < n → f v ≤ c) → w < n → f w < c → sum_to n f < n * c
 sum_smaller n c w f h l k =
@@ -62,9 +59,6 @@ turns_all n (t ∷ ts) h =
 
 -- ---- tests
 
-leb_made : (a b : ℕ) → a ≤ b → leb a b ≡ true
-leb_made a b h = grind (arith, nat_tests)
-
 ready_made : (w n x c : ℕ) → w < n → x < c → (ltb w n && ltb x c) ≡ true
 ready_made w n x c h k = grind (arith, nat_tests)
 
@@ -78,20 +72,24 @@ module _ (m n c : ℕ) (long : 1 ≤ c) where
   parts : (j : ℕ → ℕ) → all_below n (λ v. leb (j v) c) ≡ true → (v : ℕ) → v < n → j v ≤ c
   parts j sound v l = leb-true (j v) c (all_have n (λ u. leb (j u) c) sound v l)
 
-  within : (j : ℕ → ℕ) (ts : List (Turn ℕ)) → Ticks (jobs_of (lanes n c)) j ts → (v : ℕ) → v < n → j v + turns_of v ts ≤ c
+  -- the state is sound, and each node that has a turn has one and is ready
+  abbrev pub LaneTicks : (j : ℕ → ℕ) → List (Turn ℕ) → Type 0
+  LaneTicks j ts = (all_below n (λ v. leb (j v) c) ≡ true) × ReadyOnce (λ w. (ltb w n && ltb (j w) c) ≡ true) ts
+
+  within : (j : ℕ → ℕ) (ts : List (Turn ℕ)) → LaneTicks j ts → (v : ℕ) → v < n → j v + turns_of v ts ≤ c
   within j ts h v l =
       elim (cases_lt 0 (turns_of v ts)) [
         | inl t ↦ omega (arith, (h.1 v).0, (ready_parts v n (j v) c ((h.1 v).1 t)).1)
         | inr t ↦ omega (arith, parts j h.0 v l)
       ]
 
-  pub lanes_laws : JobLaws (jobs_of (lanes n c)) m (n * c) ((m - 1) * c + n * c)
+  pub lanes_laws : LawsIn (jobs_of (lanes n c)) LaneTicks m (n * c) ((m - 1) * c + n * c)
   lanes_laws =
       record {
-        fresh_sound = all_made n (λ v. leb 0 c) (λ v l. leb_made 0 c (omega arith));
+        fresh_sound = all_made n (λ v. leb 0 c) (λ v l. le-leb 0 c (omega arith));
         fresh_own = sum_to_none n;
         fresh_chain = λ w ready. refl;
-        stays_sound = λ j ts h. all_made n (λ v. leb (j v + turns_of v ts) c) (λ v l. leb_made (j v + turns_of v ts) c (within j ts h v l));
+        stays_sound = λ j ts h. all_made n (λ v. leb (j v + turns_of v ts) c) (λ v l. le-leb (j v + turns_of v ts) c (within j ts h v l));
         own_grows = λ j ts h. omega (arith, sum_to_add n j (λ v. turns_of v ts), turns_all n ts (λ v t. (ready_parts v n (j v) c ((h.1 v).1 t)).0));
         own_in_work = λ j sound. sum_small n c j (parts j sound);
         progress = λ j sound going.

@@ -6,5 +6,6 @@ pub mod Weights
 pub mod Interference
 pub mod Places
 pub mod Invariant
+pub mod Freely
 pub mod Lanes
 pub mod Examples

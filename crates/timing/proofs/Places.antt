@@ -1,14 +1,16 @@
 -- A tick seen slot by slot: the turns that the places of one list give to each slot.
 use Rattle.std.proofs.Common.{◌≡◌, ℕ, zero, suc, ◌+◌, ◌<◌, ◌≤◌, Bool, true, false, cond, ◌&&◌, eqb, ◌⊎◌, List, [], ◌∷◌, length, sym, refl, subst, inl, inr, arith}
 use Rattle.std.proofs.lemmas.Bool.Decides.{nat_tests}
-use Rattle.std.proofs.lemmas.Bool.{cases_lt, cases_eq, eqb-true, and_parts}
+use Rattle.std.proofs.lemmas.Bool.{cases_eq, eqb-true}
 use Rattle.std.specs.List.{AllByRecursion}
-use Rattle.timing.specs.Counts.{bit, sum_to}
+use Rattle.bounds.specs.Equation.{sum_to}
+use Rattle.timing.specs.Counts.{bit}
 use Rattle.timing.specs.Jobs.{Jobs, Turn, turns_of, Fair}
 use Rattle.timing.specs.System.{System, Held}
-use Rattle.timing.specs.Run.{Slot, idle, busy, State, Place, turns_for, places_of, ReadyAt, OpenAt, MayTick}
+use Rattle.timing.specs.Run.{Slot, idle, busy, State, Place, turns_for, places_of, ReadyAt, MayHaveAt, OpenAt, MayTick}
 use Rattle.timing.proofs.Counting.{sum_to_add, sum_to_none, one_node}
 use Rattle.timing.proofs.Interference.{goes_ahead}
+use Rattle.timing.proofs.Logs.{all_weaker}
 
 -- ---- what is asked of the turns of each slot
 
@@ -21,7 +23,7 @@ running y turns = sum_to y.plan.slots (λ i. length (turns i))
 
 abbrev pub FairAt : {O : Type 0} (J : Jobs O) → List (Turn O) → Slot J.State → Type 0
 FairAt J ts (idle past) = length ts ≡ 0
-FairAt J ts (busy r spent j past) = Fair (J.Ready j) ts
+FairAt J ts (busy r spent j past) = Fair J j ts
 
 -- Where a ready node of slot k's open job has no turn, all cores run, and run jobs that go ahead of it, or its own.
 abbrev pub Conserving : (y : System) → State y → Turns y → (k : ℕ) → Slot (y.jobs k).State → Type 0
@@ -46,7 +48,7 @@ module _ {O : Type 0} where
       go true = omega arith
       go false = omega arith
 
-  turns_are_places : (k v : ℕ) (cs : List (Place O)) → turns_of v (turns_for k cs) ≡ places_of k v cs
+  pub turns_are_places : (k v : ℕ) (cs : List (Place O)) → turns_of v (turns_for k cs) ≡ places_of k v cs
   turns_are_places k v [] = refl
   turns_are_places k v (c ∷ cs) = go (eqb k c.slot) (turns_are_places k v cs)
     where
@@ -55,6 +57,7 @@ module _ {O : Type 0} where
       go false e = omega arith
 
   all_turns : (n : ℕ) (cs : List (Place O)) → AllByRecursion (λ c. c.slot < n) cs → sum_to n (λ k. length (turns_for k cs)) ≡ length cs
+  unfolding sum_to
   all_turns n [] h = sum_to_none n
   all_turns n (c ∷ cs) h = omega (arith, split n, sum_to_add n (λ k. bit (eqb k c.slot)) (λ k. length (turns_for k cs)), one_node n c.slot h.0, all_turns n cs h.1)
     where
@@ -71,49 +74,34 @@ module _ {O : Type 0} where
       other : (a b : ℕ) → (a ≡ b → ⊥) → bit (eqb a b) ≡ 0
       other a b n = grind (arith, nat_tests)
 
-  place_of_node : (P : ℕ → ℕ → Type 0) (k v : ℕ) (cs : List (Place O)) → AllByRecursion (λ c. P c.slot c.turn.node) cs → 1 ≤ places_of k v cs → P k v
-  place_of_node P k v [] h l = absurd (omega arith)
-  place_of_node P k v (c ∷ cs) h l = go (eqb k c.slot && eqb v c.turn.node) refl l (place_of_node P k v cs h.1)
+  -- what holds of every place holds of the turns of a slot
+  turns_of_places : (P : ℕ → Turn O → Type 0) (k : ℕ) (cs : List (Place O)) → AllByRecursion (λ c. P c.slot c.turn) cs → AllByRecursion (P k) (turns_for k cs)
+  turns_of_places P k [] h = tt
+  turns_of_places P k (c ∷ cs) h = go (eqb k c.slot) refl (turns_of_places P k cs h.1)
     where
-      go : (b : Bool) → (eqb k c.slot && eqb v c.turn.node) ≡ b → 1 ≤ bit b + places_of k v cs → (1 ≤ places_of k v cs → P k v) → P k v
-      go true e _ rest =
-          let parts = and_parts (eqb k c.slot) (eqb v c.turn.node) e in
-          subst (λ (u : ℕ). P k u) (sym (eqb-true v c.turn.node parts.1)) (subst (λ (i : ℕ). P i c.turn.node) (sym (eqb-true k c.slot parts.0)) h.0)
-      go false e some rest = rest (omega arith)
-
-all_first : {X : Type 0} (P Q : X → Type 0) (xs : List X) → AllByRecursion (λ x. P x × Q x) xs → AllByRecursion P xs
-all_first P Q [] h = tt
-all_first P Q (x ∷ xs) h = (h.0.0, all_first P Q xs h.1)
-
-all_second : {X : Type 0} (P Q : X → Type 0) (xs : List X) → AllByRecursion (λ x. P x × Q x) xs → AllByRecursion Q xs
-all_second P Q [] h = tt
-all_second P Q (x ∷ xs) h = (h.0.1, all_second P Q xs h.1)
+      go : (b : Bool) → eqb k c.slot ≡ b → AllByRecursion (P k) (turns_for k cs) → AllByRecursion (P k) (cond b (c.turn ∷ turns_for k cs) (turns_for k cs))
+      go true e rest = (subst (λ (i : ℕ). P i c.turn) (sym (eqb-true k c.slot e)) h.0, rest)
+      go false e rest = rest
 
 module _ (y : System) (s : State y) (cs : List (Place y.Outcome)) (may : MayTick y s cs) where
   abbrev turns : Turns y
   turns k = turns_for k cs
 
-  placed : (k v : ℕ) → 1 ≤ places_of k v cs → ReadyAt (y.jobs k) v (s.slot k)
-  placed k v h =
-      place_of_node (λ i u. ReadyAt (y.jobs i) u (s.slot i)) k v cs
-      (all_second (λ c. c.slot < y.plan.slots) (λ c. ReadyAt (y.jobs c.slot) c.turn.node (s.slot c.slot)) cs may.ready) h
+  turns_allowed : (k : ℕ) → AllByRecursion (λ t. MayHaveAt (y.jobs k) t (s.slot k)) (turns_for k cs)
+  turns_allowed k =
+      turns_of_places (λ i t. MayHaveAt (y.jobs i) t (s.slot i)) k cs
+      (all_weaker (λ c. (c.slot < y.plan.slots) × MayHaveAt (y.jobs c.slot) c.turn (s.slot c.slot)) (λ c. MayHaveAt (y.jobs c.slot) c.turn (s.slot c.slot)) (λ c h. h.1) cs may.allowed)
 
   all_running : running y turns ≡ length cs
-  all_running = all_turns y.plan.slots cs (all_first (λ c. c.slot < y.plan.slots) (λ c. ReadyAt (y.jobs c.slot) c.turn.node (s.slot c.slot)) cs may.ready)
+  all_running = all_turns y.plan.slots cs (all_weaker (λ c. (c.slot < y.plan.slots) × MayHaveAt (y.jobs c.slot) c.turn (s.slot c.slot)) (λ c. c.slot < y.plan.slots) (λ c h. h.0) cs may.allowed)
 
-  -- a slot with a turn has an open job
-  open_slot : (i : ℕ) → 1 ≤ length (turns_for i cs) → (v : ℕ) × ReadyAt (y.jobs i) v (s.slot i)
-  open_slot i h =
-      place_of (λ k. (v : ℕ) × ReadyAt (y.jobs k) v (s.slot k)) i cs (each cs may.ready) h
+  fair_at : (k : ℕ) (x : Slot (y.jobs k).State) → AllByRecursion (λ t. MayHaveAt (y.jobs k) t x) (turns_for k cs) → FairAt (y.jobs k) (turns_for k cs) x
+  fair_at k (idle past) allowed = no_turns (turns_for k cs) allowed
     where
-      each : (ds : List (Place y.Outcome)) → AllByRecursion (λ c. (c.slot < y.plan.slots) × ReadyAt (y.jobs c.slot) c.turn.node (s.slot c.slot)) ds → AllByRecursion (λ c. (v : ℕ) × ReadyAt (y.jobs c.slot) v (s.slot c.slot)) ds
-      each [] a = tt
-      each (d ∷ ds) a = ((d.turn.node, a.0.1), each ds a.1)
-
-  fair_at : (k : ℕ) (x : Slot (y.jobs k).State) → (1 ≤ length (turns_for k cs) → (v : ℕ) × ReadyAt (y.jobs k) v x) → ((v : ℕ) → 1 ≤ places_of k v cs → ReadyAt (y.jobs k) v x) → FairAt (y.jobs k) (turns_for k cs) x
-  fair_at k (idle past) opened ready =
-      elim (cases_lt 0 (length (turns_for k cs))) [ inl l ↦ absurd (opened l).1 | inr l ↦ omega arith ]
-  fair_at k (busy r sp j past) opened ready = λ v. (omega (arith, turns_are_places k v cs, may.once k v), λ h. ready v (omega (arith, turns_are_places k v cs)))
+      no_turns : (ts : List (Turn y.Outcome)) → AllByRecursion (λ t. ⊥) ts → length ts ≡ 0
+      no_turns [] none = refl
+      no_turns (t ∷ ts) none = absurd none.0
+  fair_at k (busy r sp j past) allowed = record { once = λ v. omega (arith, turns_are_places k v cs, may.once k v); allowed = allowed }
 
   conserving_at : (k : ℕ) (x : Slot (y.jobs k).State) →
       ((w : ℕ) → ReadyAt (y.jobs k) w x → places_of k w cs ≡ 0 → (length cs ≡ y.plan.cores) × AllByRecursion (λ c. (c.slot ≡ k) ⊎ OpenAt (λ r. OpenAt (λ q. goes_ahead y.plan k r c.slot q ≡ true) (s.slot c.slot)) x) cs) →
@@ -132,7 +120,7 @@ module _ (y : System) (s : State y) (cs : List (Place y.Outcome)) (may : MayTick
   pub slotwise : Slotwise y s (λ k. turns_for k cs)
   slotwise =
       record {
-        fair = λ k l. fair_at k (s.slot k) (open_slot k) (placed k);
+        fair = λ k l. fair_at k (s.slot k) (turns_allowed k);
         few = omega (arith, all_running, may.few);
         conserving = λ k h. conserving_at k (s.slot k) (λ w ready none. may.work_conserving k w h ready none);
       }

@@ -3,9 +3,11 @@ use Rattle.std.proofs.Common.{◌≡◌, ℕ, zero, suc, ◌+◌, ◌-◌, ◌*�
 use Rattle.std.proofs.lemmas.Bool.Decides.{nat_tests}
 use Rattle.std.proofs.lemmas.Bool.{cases_lt, ltb-false}
 use Rattle.std.specs.List.{AllByRecursion}
+use Rattle.bounds.specs.Equation.{jobs_in}
+use Rattle.bounds.proofs.Rounding.{up_enough}
 use Rattle.timing.specs.Counts.{bit, count_if, sum_of}
-use Rattle.timing.specs.Window.{Job, Fits, ApartBefore, Apart, in_window, used, jobs_in, WindowBounded, used_ahead, reaches, AheadBounded}
-use Rattle.timing.proofs.Counting.{count_if_mono, count_if_length, count_narrow, div_up_enough, sum_of_mono}
+use Rattle.timing.specs.Window.{Job, Fits, ApartBefore, Apart, in_window, used, WindowBounded, used_ahead, reaches, AheadBounded}
+use Rattle.timing.proofs.Counting.{count_if_mono, count_if_length, count_narrow, sum_of_mono}
 
 -- what is in the window and below the end of the job lies in the window from a to that end
 from_start : (a n e r t : ℕ) → (r ≤ t) × (t < e) → bit (in_window a n t) ≤ bit (in_window a (e - a) t)
@@ -35,7 +37,7 @@ module _ (m R W a n : ℕ) (j : Job) (fits : Fits m W R j) where
         count_narrow m j.released ((a + n) - j.released) j.spent fits.narrow,
       )
 
--- a bound times m
+-- a bound times m; std's lemma with its numbers written out, which a search for h needs
 times_le : (m x y : ℕ) → x ≤ y → m * x ≤ m * y
 times_le m x y h = mul-le-mul_left m h
 
@@ -106,7 +108,7 @@ product_pos m T h k = omega (arith, times_le m 1 T k)
 
 pub window_bounded : WindowBounded
 window_bounded m T R W a n jobs cores period within life long sp fit =
-    go (jobs_in m T W (n + R)) (div_up_enough (m * (n + R) - W) (m * T) (product_pos m T cores period))
+    go (jobs_in m T W (n + R)) (up_enough (m * (n + R) - W) (m * T) (product_pos m T cores period))
   where
     go : (q : ℕ) → m * (n + R) - W ≤ m * T * q → sum_of (used a n) jobs ≤ W * q
     go zero k = absurd (omega (arith, times_le m 1 n long))

@@ -1,5 +1,5 @@
--- Counts and sums, over lists and over the numbers below a bound. Assumes nothing.
-use Rattle.std.specs.Prelude.{ℕ, zero, suc, ◌+◌, ◌-◌, ◌/◌, Bool, true, false, cond, ◌&&◌, List, [], ◌∷◌, ◌==◌, nat_eq}
+-- Counts and sums over lists, and a test of the numbers below a bound. Assumes nothing.
+use Rattle.std.specs.Prelude.{ℕ, zero, suc, ◌+◌, Bool, true, false, ◌&&◌, List, [], ◌∷◌, nat_eq}
 
 abbrev pub bit : Bool → ℕ
 bit true = 1
@@ -17,19 +17,6 @@ times v xs = count_if (nat_eq v) xs
 abbrev pub sum_of : {X : Type 0} → (X → ℕ) → List X → ℕ
 sum_of f [] = 0
 sum_of f (x ∷ xs) = f x + sum_of f xs
-
--- the sum of f i over i < n
-abbrev pub sum_to : ℕ → (ℕ → ℕ) → ℕ
-sum_to zero f = 0
-sum_to (suc n) f = f n + sum_to n f
-
--- f with 0 at k: `sum_to n (apart_from k f)` is the sum over the others
-abbrev pub apart_from : ℕ → (ℕ → ℕ) → ℕ → ℕ
-apart_from k f i = cond (i == k) 0 (f i)
-
--- the quotient rounded up
-abbrev pub div_ceil : ℕ → ℕ → ℕ
-div_ceil a b = (a + (b - 1)) / b
 
 -- the test passes for every number below n
 abbrev pub all_below : ℕ → (ℕ → Bool) → Bool

@@ -1,13 +1,14 @@
 -- Two tasks on two cores, and a run in which the job of each ends exactly at its bound. Assumes nothing.
 use Rattle.std.specs.Prelude.{◌≡◌, ℕ, ◌+◌, true, false, cond, ◌&&◌, [], ◌∷◌, ◌==◌, nat_le, nat_lt}
 use Rattle.order.specs.Orders.{smaller_slot, slot_cap}
-use Rattle.timing.specs.Counts.{sum_to, all_below}
+use Rattle.bounds.specs.Equation.{sum_to}
+use Rattle.timing.specs.Counts.{all_below}
 use Rattle.timing.specs.Jobs.{turns_of}
 use Rattle.timing.specs.System.{Plan, Bounded, System, SoundJobs}
 use Rattle.timing.specs.Run.{idle, State, start, Run}
 use Rattle.timing.specs.Statements.{Responds, TestedJobs, system_of}
 
--- n nodes side by side, each of c ticks; the state is what each has run
+-- n nodes side by side, each of c ticks; the state is what each has run, and an outcome counts the ticks that the node has run with this one
 abbrev pub lanes : ℕ → ℕ → TestedJobs (ℕ → ℕ) ℕ
 lanes n c =
     record {
@@ -16,6 +17,7 @@ lanes n c =
       ended = λ j. all_below n (λ v. nat_le c (j v));
       sound = λ j. all_below n (λ v. nat_le (j v) c);
       ready = λ j w. nat_lt w n && nat_lt (j w) c;
+      allows = λ j t. (t.outcome == j t.node + 1);
       leads = λ j v w. false;
       chain = λ j w a. (a == j w);
       own = λ j. sum_to n j;

@@ -5,3 +5,4 @@ pub mod System
 pub mod Run
 pub mod Statements
 pub mod Example
+pub mod Freely

@@ -2,7 +2,7 @@
 use Rattle.std.specs.Prelude.{◌≡◌, ℕ, suc, ◌+◌, ◌<◌, ◌≤◌, Bool, true, false, cond, ◌&&◌, ◌⊎◌, List, [], ◌∷◌, ◌++◌, length, replicate, pos, ◌-ℤ◌, ◌==◌}
 use Rattle.std.specs.List.{AllByRecursion}
 use Rattle.timing.specs.Counts.{count_if}
-use Rattle.timing.specs.Jobs.{Jobs, Turn}
+use Rattle.timing.specs.Jobs.{Jobs, Turn, MayHave}
 use Rattle.timing.specs.System.{System, Held}
 
 -- ---- states
@@ -65,6 +65,11 @@ abbrev pub ReadyAt : {O : Type 0} (J : Jobs O) → ℕ → Slot J.State → Type
 ReadyAt J w (idle past) = ⊥
 ReadyAt J w (busy r spent j past) = J.Ready j w
 
+-- the slot has an open job, which may have the turn
+abbrev pub MayHaveAt : {O : Type 0} (J : Jobs O) → Turn O → Slot J.State → Type 0
+MayHaveAt J t (idle past) = ⊥
+MayHaveAt J t (busy r spent j past) = MayHave J j t
+
 -- the slot has an open job, of whose release P holds
 abbrev pub OpenAt : {S : Type 0} → (ℕ → Type 0) → Slot S → Type 0
 OpenAt P (idle past) = ⊥
@@ -76,7 +81,9 @@ GoesAhead y s i k =
     OpenAt (λ r. OpenAt (λ q. y.plan.goes (y.plan.party i) (y.plan.party k) (pos q -ℤ pos r) ≡ true) (s.slot i)) (s.slot k)
 
 pub record MayTick (y : System) (s : State y) (cs : List (Place y.Outcome)) : Type 0 where
-  pub ready : AllByRecursion (λ c. (c.slot < y.plan.slots) × ReadyAt (y.jobs c.slot) c.turn.node (s.slot c.slot)) cs
+  -- each core runs a node that is ready, and the tick brings it an outcome that is allowed there
+  pub allowed : AllByRecursion (λ c. (c.slot < y.plan.slots) × MayHaveAt (y.jobs c.slot) c.turn (s.slot c.slot)) cs
+  -- no node has two cores
   pub once : (k v : ℕ) → places_of k v cs ≤ 1
   pub few : length cs ≤ y.plan.cores
   -- where a ready node has no core, all cores have nodes of its job, or of jobs that go ahead of it

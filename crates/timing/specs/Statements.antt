@@ -53,6 +53,7 @@ pub record TestedJobs (S O : Type 0) : Type 0 where
   pub ended : S → Bool
   pub sound : S → Bool
   pub ready : S → ℕ → Bool
+  pub allows : S → Turn O → Bool
   pub leads : S → ℕ → ℕ → Bool
   pub chain : S → ℕ → ℕ → Bool
   pub own : S → ℕ
@@ -66,6 +67,7 @@ jobs_of {S = S} q =
       ended = q.ended;
       Sound = λ j. q.sound j ≡ true;
       Ready = λ j w. q.ready j w ≡ true;
+      Allows = λ j t. q.allows j t ≡ true;
       Leads = λ j v w. q.leads j v w ≡ true;
       Chain = λ j w c. q.chain j w c ≡ true;
       own = q.own;

@@ -1,9 +1,8 @@
 -- Tasks on m cores with an order and bounds, and when the bounds are large enough. Assumes nothing.
-use Rattle.std.specs.Prelude.{◌≡◌, ℕ, ◌+◌, ◌*◌, ◌<◌, ◌≤◌, min, Bool, true, cond, ℤ, Some, None, Option}
+use Rattle.std.specs.Prelude.{◌≡◌, ℕ, ◌+◌, ◌*◌, ◌<◌, ◌≤◌, Bool, true, cond, ℤ, Option}
 use Rattle.order.specs.declared.Party.{Party}
 use Rattle.order.specs.Laws.{Lawful, Orderly}
-use Rattle.timing.specs.Counts.{sum_to, apart_from}
-use Rattle.timing.specs.Window.{jobs_in}
+use Rattle.bounds.specs.Equation.{sum_to, apart_from, work_ahead_of}
 use Rattle.timing.specs.Jobs.{Jobs, JobLaws}
 
 -- The numbers of a system: its cores, its slots, which of them hold a task, each task's party to the order, its bound, work and weight;
@@ -22,15 +21,6 @@ pub record Plan : Type 0 where
 -- the slot holds a task
 abbrev pub Held : Plan → ℕ → Type 0
 Held p k = (k < p.slots) × (p.holds k ≡ true)
-
--- the smaller of a number and the cap, if there is one
-abbrev pub capped : Option ℕ → ℕ → ℕ
-capped None n = n
-capped (Some c) n = min c n
-
--- what a task of work W and period T uses ahead of one job on m cores, where its bound and the job's add up to `room`
-abbrev pub work_ahead_of : (m W T : ℕ) → Option ℕ → (room : ℕ) → ℕ
-work_ahead_of m W T cap room = W * capped cap (jobs_in m T W room)
 
 -- what the task of slot i uses ahead of one job of slot k
 abbrev pub share : Plan → ℕ → ℕ → ℕ

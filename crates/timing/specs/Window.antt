@@ -1,7 +1,8 @@
 -- What the jobs of one task use of m cores in a window of ticks. Assumes nothing.
-use Rattle.std.specs.Prelude.{ℕ, ◌+◌, ◌-◌, ◌*◌, ◌<◌, ◌≤◌, Bool, cond, ◌&&◌, List, [], ◌∷◌, length, nat_le, nat_lt}
+use Rattle.std.specs.Prelude.{ℕ, ◌+◌, ◌*◌, ◌<◌, ◌≤◌, Bool, cond, ◌&&◌, List, [], ◌∷◌, length, nat_le, nat_lt}
 use Rattle.std.specs.List.{AllByRecursion}
-use Rattle.timing.specs.Counts.{count_if, times, sum_of, div_ceil}
+use Rattle.bounds.specs.Equation.{jobs_in}
+use Rattle.timing.specs.Counts.{count_if, times, sum_of}
 
 -- a job: its release, and the ticks in which it used a core, each as often as it used one
 pub record Job : Type 0 where
@@ -31,11 +32,8 @@ in_window a n t = nat_le a t && nat_lt t (a + n)
 abbrev pub used : ℕ → ℕ → Job → ℕ
 used a n j = count_if (in_window a n) j.spent
 
--- How many jobs of a task with period T and work W count whole in a window of n ticks, where each job ends within R ticks: `room` is n + R.
--- One more job may reach into the window: then the oldest, which is carried in, and the newest, which is cut off, use no more than W together.
-abbrev pub jobs_in : (m T W room : ℕ) → ℕ
-jobs_in m T W room = div_ceil (m * room - W) (m * T)
-
+-- The jobs of a task with period T and work W, each within R ticks, use no more in a window of n ticks than `jobs_in` of them whole. One more
+-- job may reach into the window: then the oldest, which is carried in, and the newest, which is cut off, use no more than W together.
 abbrev pub WindowBounded : Type 0
 WindowBounded =
     (m T R W a n : ℕ) (jobs : List Job) → 1 ≤ m → 1 ≤ T → W ≤ m * T → W ≤ m * R → 1 ≤ n → Apart T jobs → AllByRecursion (Fits m W R) jobs

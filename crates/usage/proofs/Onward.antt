@@ -4,7 +4,7 @@ use Rattle.controller.specs.declared.tables.Tables.{Tables}
 use Rattle.controller.specs.Calls.{Call, Answer, Event}
 use Rattle.controller.specs.Does.{History}
 use Rattle.controller.specs.Promise.{Kept}
-use Rattle.controller.specs.State.{Meaning}
+use Rattle.order.specs.Laws.{Meaning}
 use Rattle.usage.specs.Reached.{InTimeAt}
 
 -- the order may be known by another name that means the same

@@ -4,7 +4,7 @@ use Rattle.controller.specs.declared.tables.Tables.{Tables}
 use Rattle.controller.specs.Book.{book, InTime}
 use Rattle.controller.specs.Calls.{Event}
 use Rattle.controller.specs.Does.{History}
-use Rattle.controller.specs.State.{Meaning}
+use Rattle.order.specs.Laws.{Meaning}
 
 pub record InTimeAt (o : Meaning) (t : Tables) : Type 0 where
   pub events : List Event

@@ -4,7 +4,6 @@
 ghost use Rattle.std.specs.Prelude.{List, Ok, Err};
 ghost use Rattle.controller.specs.Calls.{Event};
 ghost use Rattle.controller.specs.Does.{History};
-ghost use Rattle.controller.specs.State.{meaning};
 ghost use Rattle.usage.specs.Reached.{InTimeAt};
 
 use controller::{Controller, Refusal};
@@ -17,7 +16,7 @@ pub fn frame<O: Order>(
     cores: &mut [u16],
     outcomes: &[u8],
 ) -> Result<u16, Refusal>
-    ensures { (h : List Event) → History (meaning (O.Order.goes scanner.old.order) (O.Order.most scanner.old.order)) h scanner.old.tables → InTimeAt (meaning (O.Order.goes scanner.old.order) (O.Order.most scanner.old.order)) scanner.new.tables }
+    ensures { (h : List Event) → History (O.Order.means scanner.old.order) h scanner.old.tables → InTimeAt (O.Order.means scanner.old.order) scanner.new.tables }
 {
     let _ = scanner.release(slot);
     let _ = scanner.open_tick(cores);
@@ -31,12 +30,9 @@ pub fn first_reel<O: Order + Drop>(
     table: &[u8],
     bounds: &mut [u32],
 ) -> Result<Controller<O>, Refusal>
-    ensures { elim result [ Ok c ↦ InTimeAt (meaning (O.Order.goes order) (O.Order.most order)) c.tables | Err e ↦ Unit {0} ] }
+    ensures { elim result [ Ok c ↦ InTimeAt (O.Order.means order) c.tables | Err e ↦ Unit {0} ] }
 {
-    let mut scanner = match Controller::open(cores, order) {
-        Ok(scanner) => scanner,
-        Err(refusal) => return Err(refusal),
-    };
+    let mut scanner = Controller::open(cores, order)?;
     let _ = scanner.add(0, table);
     let _ = scanner.admit(bounds);
     Ok(scanner)

@@ -1,9 +1,7 @@
-use Rattle.std.proofs.Common.{ℕ, ◌≤◌, List, length, Some, None, Ok, Err, sym, ◌∙◌, subst, arith}
+use Rattle.std.proofs.Common.{ℕ, ◌≤◌, List, length, Some, None, Ok, ◌∙◌, subst, arith}
 use Rattle.std.proofs.lemmas.Result.{err_from_is_err_and}
-use Rattle.table.specs.declared.fault.Fault.TheVariants.{Range}
-use Rattle.table.specs.Reading.{Answered}
-use Rattle.table.proofs.Kept.{kept_first, place_kept, kept_next, kept_ends, kept_out, fields_long}
-use Rattle.table.proofs.Steps.{stood, answered, faulted, moved}
+use Rattle.table.proofs.Kept.{kept_first, place_kept, kept_next, kept_ends, fields_long}
+use Rattle.table.proofs.Steps.{stood, answered, refused, faulted, moved}
 use Rattle.table.proofs.read.Goals as goal
 
 pub loop-part-init : goal.loop-part-init
@@ -37,18 +35,17 @@ put-requires c =
       fields_long bytes r.at r.seen c.in-Some.part.kind c.in-Some.part.fields.now h.0 h.1,
     )
 
-pub returns-in-Err : goal.returns-in-Err
-returns-in-Err c =
+pub returns-in_err-put : goal.returns-in_err-put
+returns-in_err-put c =
+    let e = err_from_is_err_and c.from_residual-in_err-put.result c.from_residual-in_err-put.ensures.1 in
     let r = c.loop-part.reader in
     let bytes = c.args.table.now in
     let inv = c.loop-part.invariant in
     let p = c.in-Some.part in
     let h = stood r.table.now bytes r.at r.seen c.next.new.self.at c.next.new.self.seen
     c.in_ok-part.field-0 (Some p) inv.0 c.in-Some.is c.in_ok-part.ensures.value in
-    let out = kept_out bytes r.at r.seen c.loop-part.records p.kind p.fields.now c.in-Err.misfit inv.2 h.0 h.1
-    c.in-Err.ensures in
-    subst (λ (o : ℕ). Answered bytes (Err (Range o c.in-Err.misfit))) (sym h.2)
-    (answered bytes (Err (Range r.at c.in-Err.misfit)) out)
+    rw (e.1, e.2)
+    (refused bytes r.at r.seen c.loop-part.records p c.in_err-put.field-0.0 inv.2 h.0 h.1 h.2 c.in_err-put.ensures)
 
 pub loop-part-preserved : goal.loop-part-preserved
 loop-part-preserved c =
@@ -58,7 +55,7 @@ loop-part-preserved c =
     let p = c.in-Some.part in
     let h = stood r.table.now bytes r.at r.seen c.next.new.self.at c.next.new.self.seen
     c.in_ok-part.field-0 (Some p) inv.0 c.in-Some.is c.in_ok-part.ensures.value in
-    let got = c.in_default-put.ensures in
+    let got = c.in_ok-put.ensures in
     let k = kept_next bytes r.at r.seen c.loop-part.records p.kind p.fields.now got.it
     (λ i. (c.type_inv.table i).fits) inv.2 h.0 h.1 got.kind_is got.in_range got.bytes_are in (
       c.in_ok-part.ensures.same ∙ inv.0,

@@ -1,12 +1,12 @@
 use Rattle.std.proofs.Common.{refl, ap, ◌∙◌}
 use Rattle.controller.specs.Calls.{Release, OpenTick, CloseTick}
-use Rattle.controller.specs.State.{Meaning, meaning}
+use Rattle.order.specs.Laws.{Meaning}
 use Rattle.usage.proofs.Onward.{onward}
 use Rattle.usage.proofs.frame.Goals as goal
 
 pub returns : goal.returns
 returns g c h past =
-    let means : g.row.O.Denot → Meaning = λ x. meaning (g.O.Order.goes x) (g.O.Order.most x) in
+    let means : g.row.O.Denot → Meaning = g.O.Order.means in
     let o = means c.args.scanner.now.order in
     let first = c.release.ensures.same in
     let second = c.open_tick.ensures.same in

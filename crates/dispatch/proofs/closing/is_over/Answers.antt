@@ -1,5 +1,5 @@
 use Rattle.std.proofs.Common.{◌-◌, List, length, subst}
-use Rattle.held_jobs.specs.Job.{HasEnded}
+use Rattle.jobs.specs.Job.{HasEnded}
 use Rattle.sets.specs.Tests.{Says}
 use Rattle.sets.proofs.Says.{says_like}
 use Rattle.table.specs.declared.records.Node.{Node}

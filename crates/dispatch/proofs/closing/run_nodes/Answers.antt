@@ -1,5 +1,5 @@
 use Rattle.std.proofs.Common.{◌+◌, List, sym, subst₂, arith}
-use Rattle.held_jobs.specs.declared.node_state.NodeState.{NodeState}
+use Rattle.jobs.specs.declared.node_state.NodeState.{NodeState}
 use Rattle.sets.specs.declared.bit_set.BitSet.{BitSet}
 use Rattle.dispatch.specs.Moves.{Runs}
 use Rattle.dispatch.proofs.Outcomes.{runs_none, runs_skip, runs_more}

@@ -1,15 +1,13 @@
-use Rattle.plans.proofs.Slots.{slot_found, slot_not_yet, slot_nowhere}
+use Rattle.std.proofs.Common.{◌≡◌, rules}
+use Rattle.std.proofs.lemmas.Iterator.{YieldsList-from_slice, cases_from_any}
+use Rattle.plans.specs.declared.plan.Entry.{Entry}
+use Rattle.plans.proofs.Slots.{slot_told}
+use borrow.Author.Tests.{tests}
 use Rattle.plans.proofs.draft.is_taken.Goals as goal
 
-pub returns-then-held-slot : goal.returns-then-held-slot
-returns-then-held-slot c =
-    slot_found c.args.entries.now c.loop-held.held-index c.args.slot c.held-item.result c.loop-held-test.true c.held-item.is
-    c.if-held-slot.true
-
-pub loop-held-preserved : goal.loop-held-preserved
-loop-held-preserved c =
-    slot_not_yet c.args.entries.now c.loop-held.held-index c.args.slot c.held-item.result c.loop-held-test.true c.held-item.is
-    c.if-held-slot.false c.loop-held.invariant
-
 pub returns : goal.returns
-returns c = slot_nowhere c.args.entries.now c.loop-held.held-index c.args.slot c.loop-held-test.false c.loop-held.invariant
+returns c =
+    slot_told c.args.entries.now c.args.slot c.any.result (
+    cases_from_any _ _ _ (λ (e : Entry). e.slot ≡ c.args.slot) (λ (e : Entry). e.slot ≡ c.args.slot → ⊥) c.any.ensures.ran
+    (YieldsList-from_slice c.args.entries.now cc) (λ x q k. search (rules, tests)) (λ x q k. search (rules, tests))
+    )

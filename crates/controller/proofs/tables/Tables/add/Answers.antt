@@ -1,71 +1,48 @@
-use Rattle.std.proofs.Common.{◌≡◌, ℕ, [], ◌∷◌, set, None, refl, ap, ◌∙◌, subst, inl, inr}
+use Rattle.std.proofs.Common.{ℕ, [], ◌∷◌, set, None, refl, ap, ◌∙◌, inl, inr}
 use Rattle.std.proofs.lemmas.Result.{err_from_is_err_and}
-use Rattle.dispatch.specs.Tables.{task_at}
 use Rattle.controller.specs.Checks.{slot_free, table_lawful}
-use Rattle.controller.specs.State.{HoldsTask}
-use Rattle.controller.proofs.Editing.{none_there, put_elsewhere}
+use Rattle.controller.proofs.Editing.{put_elsewhere}
 use Rattle.controller.proofs.tables.Tables.add.Goals as goal
 
-pub returns-in_err-at : goal.returns-in_err-at
-returns-in_err-at c =
+pub returns-in_err-slot : goal.returns-in_err-slot
+returns-in_err-slot c =
     let p = err_from_is_err_and c.from_residual.result c.from_residual.ensures.1 in
     rw (p.1, p.2) (λ o. record {
-      away = c.in_err-at.ensures o (slot_free c.args.slot ∷ table_lawful c.args.bytes.now ∷ []);
+      away = c.in_err-slot.ensures o (slot_free c.args.slot ∷ table_lawful c.args.bytes.now ∷ []);
       unchanged = refl;
     })
 
-pub returns-then-is_held : goal.returns-then-is_held
-returns-then-is_held c =
-    let e = c.in_ok-at.ensures in
-    λ o. record {
-      away = inr (e.1, inr (e.2, inr (e.3, inl (subst (HoldsTask c.args.self.now.tasks) e.0 c.if-is_held.ensures, refl))));
+pub returns-in_err-slot_free : goal.returns-in_err-slot_free
+returns-in_err-slot_free c =
+    let e = c.in_ok-slot.ensures in
+    let p = err_from_is_err_and c.from_residual-in_err-slot_free.result c.from_residual-in_err-slot_free.ensures.1 in
+    rw (p.1, p.2, ← e.0) (λ o. record {
+      away = inr (c.in_ok-slot.slot.in_range, inr (e.1, inr (e.2, inl (c.in_err-slot_free.ensures o))));
       unchanged = refl;
-    }
+    })
 
-pub returns-in-Err : goal.returns-in-Err
-returns-in-Err c =
-    let e = c.in_ok-at.ensures in
-    let free = none_there (task_at c.args.self.now.tasks c.in_ok-at.at) c.if-is_held.ensures in
-    λ o. record {
+pub returns-in_err-task : goal.returns-in_err-task
+returns-in_err-task c =
+    let e = c.in_ok-slot.ensures in
+    let p = err_from_is_err_and c.from_residual-in_err-task.result c.from_residual-in_err-task.ensures.1 in
+    rw (p.1, p.2, ← e.0) (λ o. record {
       away = inr (
-        e.1,
-        inr (
-          e.2,
-          inr (
-            e.3,
-            inr (
-              subst (λ (x : ℕ). task_at c.args.self.now.tasks x ≡ None) e.0 free,
-              inl (c.in-Err.refusal, c.in-Err.ensures, refl),
-            ),
-          ),
-        ),
+        c.in_ok-slot.slot.in_range,
+        inr (e.1, inr (e.2, inr (c.in_ok-slot_free.ensures o, inl (c.in_err-task.field-0.0, c.in_err-task.ensures, refl)))),
       );
       unchanged = refl;
-    }
+    })
 
 pub returns : goal.returns
 returns c =
-    let e = c.in_ok-at.ensures in
-    let free = none_there (task_at c.args.self.now.tasks c.in_ok-at.at) c.if-is_held.ensures in
-    λ o. (
-      (
-        e.1,
-        (
-          e.2,
-          (
-            e.3,
-            (
-              subst (λ (x : ℕ). task_at c.args.self.now.tasks x ≡ None) e.0 free,
-              ((c.in-Ok.task.table, c.in-Ok.ensures), tt),
-            ),
-          ),
-        ),
-      ),
+    let e = c.in_ok-slot.ensures in
+    λ o. rw (← e.0) (
+      (c.in_ok-slot.slot.in_range, (e.1, (e.2, (c.in_ok-slot_free.ensures o, ((c.in_ok-task.task.table, c.in_ok-task.ensures), tt))))),
       record {
-        task = c.in-Ok.task;
-        described = c.in-Ok.ensures;
-        put = put_elsewhere c.args.self.now _ c.put.new.self c.in_ok-at.at c.args.slot c.in-Ok.task c.put.result e.0 refl refl refl refl
+        task = c.in_ok-task.task;
+        described = c.in_ok-task.ensures;
+        put = put_elsewhere c.args.self.now _ c.put.new.self c.in_ok-slot.slot.number c.in_ok-slot.slot.number c.in_ok-task.task c.put.result refl refl refl refl refl
             c.put.ensures.put;
-        never_released = c.put.ensures.waits ∙ ap (λ (x : ℕ). set c.args.self.now.waited x None) e.0;
+        never_released = c.put.ensures.waits ∙ ap (λ (x : ℕ). set c.args.self.now.waited x None) c.index.ensures.value;
       },
     )

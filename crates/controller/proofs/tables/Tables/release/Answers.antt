@@ -1,93 +1,77 @@
-use Rattle.std.proofs.Common.{set, Some, sym, refl, ap, inl, inr, arith}
+use Rattle.std.proofs.Common.{ℕ, set, Some, refl, ap, ◌∙◌, inl, inr}
+use Rattle.std.proofs.lemmas.Result.{err_from_is_err_and}
+use Rattle.bounds.specs.Equation.{bound}
 use Rattle.dispatch.specs.declared.job.Job.{Job}
-use Rattle.dispatch.specs.Tables.{task_at, job_at}
-use Rattle.controller.specs.State.{period}
-use Rattle.controller.proofs.Editing.{none_there, one_some, not_some, task_with_period}
 use Rattle.controller.proofs.tables.Tables.release.Goals as goal
 
-pub returns-in_default-bounds : goal.returns-in_default-bounds
-returns-in_default-bounds c =
-    let p = task_with_period (task_at c.args.self.now.tasks c.args.slot) c.in-Some.period (sym c.in-Some.ensures) in
-    let quiet = not_some c.args.self.now.tick c.if-is_some.ensures in
-    λ o. record { away = inr (omega arith, inr (quiet, inr ((p.task, p.held), inl (c.in_default-bounds.is, refl)))); unchanged = refl }
+pub returns-in_err-no_tick_open : goal.returns-in_err-no_tick_open
+returns-in_err-no_tick_open c =
+    let e = c.in_ok-slot.ensures in
+    let p = err_from_is_err_and c.from_residual-in_err-no_tick_open.result c.from_residual-in_err-no_tick_open.ensures.1 in
+    rw (p.1, p.2, ← e) (λ o. record { away = inr (c.in_ok-slot.slot.in_range, inl (c.in_err-no_tick_open.ensures o)); unchanged = refl })
 
-pub returns-in-Some-ticks_to_go : goal.returns-in-Some-ticks_to_go
-returns-in-Some-ticks_to_go c =
-    let p = task_with_period (task_at c.args.self.now.tasks c.args.slot) c.in-Some.period (sym c.in-Some.ensures) in
-    let quiet = not_some c.args.self.now.tick c.if-is_some.ensures in
-    let w = c.in-Some-ticks_to_go.ensures in
-    λ o. record {
+pub returns-in_err-task : goal.returns-in_err-task
+returns-in_err-task c =
+    let e = c.in_ok-slot.ensures in
+    let p = err_from_is_err_and c.from_residual-in_err-task.result c.from_residual-in_err-task.ensures.1 in
+    rw (p.1, p.2, ← e) (λ o. record {
+      away = inr (c.in_ok-slot.slot.in_range, inr (c.in_ok-no_tick_open.ensures o, inl (c.in_err-task.ensures o)));
+      unchanged = refl;
+    })
+
+pub returns-in_err-bounds : goal.returns-in_err-bounds
+returns-in_err-bounds c =
+    let e = c.in_ok-slot.ensures in
+    let p = err_from_is_err_and c.from_residual-in_err-bounds.result c.from_residual-in_err-bounds.ensures.1 in
+    rw (p.1, p.2, ← e) (λ o. record {
+      away = inr (c.in_ok-slot.slot.in_range, inr (c.in_ok-no_tick_open.ensures o, inr (c.in_ok-task.ensures.0 o, inl (c.in_err-bounds.ensures o))));
+      unchanged = refl;
+    })
+
+pub returns-in_err-period_over : goal.returns-in_err-period_over
+returns-in_err-period_over c =
+    let e = c.in_ok-slot.ensures in
+    let p = err_from_is_err_and c.from_residual-in_err-period_over.result c.from_residual-in_err-period_over.ensures.1 in
+    rw (p.1, p.2, ← e) (λ o. record {
       away = inr (
-        omega arith,
+        c.in_ok-slot.slot.in_range,
+        inr (c.in_ok-no_tick_open.ensures o, inr (c.in_ok-task.ensures.0 o, inr (c.in_ok-bounds.ensures.0 o, inl (c.in_err-period_over.ensures o)))),
+      );
+      unchanged = refl;
+    })
+
+pub returns-in_err-earlier_ended : goal.returns-in_err-earlier_ended
+returns-in_err-earlier_ended c =
+    let e = c.in_ok-slot.ensures in
+    let p = err_from_is_err_and c.from_residual-in_err-earlier_ended.result c.from_residual-in_err-earlier_ended.ensures.1 in
+    rw (p.1, p.2, ← e) (λ o. record {
+      away = inr (
+        c.in_ok-slot.slot.in_range,
         inr (
-          quiet,
-          inr (
-            (p.task, p.held),
-            inr (
-              (c.in-Some-bounds.bounds, c.in-Some-bounds.is),
-              inl (
-                c.in-Some-ticks_to_go.to_go,
-                record { task = p.task; held = p.held; waited = w.0; since = w.1; short = omega (arith, w.2, p.long); left = omega (arith, w.3, p.long) },
-                refl,
-              ),
-            ),
-          ),
+          c.in_ok-no_tick_open.ensures o,
+          inr (c.in_ok-task.ensures.0 o, inr (c.in_ok-bounds.ensures.0 o, inr (c.in_ok-period_over.ensures o, inl (c.in_err-earlier_ended.ensures o)))),
         ),
       );
       unchanged = refl;
-    }
-
-pub returns-then-is_open : goal.returns-then-is_open
-returns-then-is_open c =
-    let p = task_with_period (task_at c.args.self.now.tasks c.args.slot) c.in-Some.period (sym c.in-Some.ensures) in
-    let quiet = not_some c.args.self.now.tick c.if-is_some.ensures in
-    λ o. record {
-      away = inr (
-        omega arith,
-        inr (
-          quiet,
-          inr (
-            (p.task, p.held),
-            inr (
-              (c.in-Some-bounds.bounds, c.in-Some-bounds.is),
-              inr (
-                λ τ w e f. omega (arith, c.in_default-ticks_to_go.ensures w f, p.long, ap period (one_some p.held e)),
-                inl (c.if-is_open.ensures, refl),
-              ),
-            ),
-          ),
-        ),
-      );
-      unchanged = refl;
-    }
+    })
 
 pub returns : goal.returns
 returns c =
-    let p = task_with_period (task_at c.args.self.now.tasks c.args.slot) c.in-Some.period (sym c.in-Some.ensures) in
-    let quiet = not_some c.args.self.now.tick c.if-is_some.ensures in
-    λ o. (
+    let e = c.in_ok-slot.ensures in
+    λ o. rw (← e) (
       (
-        omega arith,
+        c.in_ok-slot.slot.in_range,
         (
-          quiet,
-          (
-            (p.task, p.held),
-            (
-              (c.in-Some-bounds.bounds, c.in-Some-bounds.is),
-              (
-                λ τ w e f. omega (arith, c.in_default-ticks_to_go.ensures w f, p.long, ap period (one_some p.held e)),
-                (none_there (job_at c.args.self.now.jobs c.args.slot) c.if-is_open.ensures, tt),
-              ),
-            ),
-          ),
+          c.in_ok-no_tick_open.ensures o,
+          (c.in_ok-task.ensures.0 o, (c.in_ok-bounds.ensures.0 o, (c.in_ok-period_over.ensures o, (c.in_ok-earlier_ended.ensures o, tt)))),
         ),
       ),
       record {
-        bounds = c.in-Some-bounds.bounds;
-        admitted = c.in-Some-bounds.is;
-        told = refl;
-        opened = ap (λ (x : Job). set c.args.self.now.jobs c.args.slot (Some x)) c.new.ensures;
-        just_now = refl;
+        bounds = c.in_ok-bounds.bounds;
+        admitted = c.in_ok-bounds.ensures.1;
+        told = ap (λ (k : ℕ). bound c.in_ok-bounds.bounds k) c.index-3.ensures.value;
+        opened = ap (λ (k : ℕ). set c.args.self.now.jobs k (Some c.new.result)) c.index.ensures.value ∙ ap (λ (x : Job). set c.args.self.now.jobs c.in_ok-slot.slot.number (Some x)) c.new.ensures;
+        just_now = ap (λ (k : ℕ). set c.args.self.now.waited k (Some 0)) c.index-2.ensures.value;
         same = record { same_plan = refl; same_held = refl };
         same_bounds = refl;
         same_tick = refl;

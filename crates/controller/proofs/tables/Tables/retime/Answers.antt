@@ -1,87 +1,79 @@
-use Rattle.std.proofs.Common.{ℕ, ◌<◌, [], ◌∷◌, length, Some, None, refl, ap, subst, inl, inr, arith}
+use Rattle.std.proofs.Common.{ℕ, ◌<◌, [], ◌∷◌, length, sym, refl, ap, ◌∙◌, subst, inl, inr, arith}
 use Rattle.std.proofs.lemmas.Result.{err_from_is_err_and}
 use Rattle.task.specs.Held.{nodes_of}
-use Rattle.controller.specs.Checks.{slot_held, node_exists, time_in_range}
-use Rattle.controller.specs.Effects.{Put}
-use Rattle.controller.proofs.Editing.{read_at, not_a_time}
+use Rattle.task.specs.Retimed.{retimed}
+use Rattle.controller.specs.Checks.{PastNodes, slot_held, node_exists, time_in_range}
+use Rattle.controller.proofs.Editing.{not_a_time}
 use Rattle.controller.proofs.tables.Tables.retime.Goals as goal
 
-pub returns-in_err-at : goal.returns-in_err-at
-returns-in_err-at c =
+pub returns-in_err-slot : goal.returns-in_err-slot
+returns-in_err-slot c =
     let p = err_from_is_err_and c.from_residual.result c.from_residual.ensures.1 in
     rw (p.1, p.2) (λ o. record {
-      away = c.in_err-at.ensures o (slot_held c.args.slot ∷ node_exists c.args.slot c.args.node ∷ time_in_range c.args.time ∷ []);
+      away = c.in_err-slot.ensures o (slot_held c.args.slot ∷ node_exists c.args.slot c.args.node ∷ time_in_range c.args.time ∷ []);
+      unchanged = refl;
+    })
+
+pub returns-in_err-before : goal.returns-in_err-before
+returns-in_err-before c =
+    let e = c.in_ok-slot.ensures in
+    let p = err_from_is_err_and c.from_residual-in_err-before.result c.from_residual-in_err-before.ensures.1 in
+    rw (p.1, p.2, ← e.0) (λ o. record {
+      away = inr (c.in_ok-slot.slot.in_range, inr (e.1, inr (e.2, inl (c.in_err-before.ensures o))));
       unchanged = refl;
     })
 
 pub returns-then-node-nodes : goal.returns-then-node-nodes
 returns-then-node-nodes c =
-    let e = c.in_ok-at.ensures in
-    let held = read_at c.args.self.now.tasks c.in_ok-at.at c.args.slot c.index-self-at.result None (Some c.in-Some.before) e.0
-    (omega (arith, e.0, e.1, c.args.self.now.sized.0)) c.in-Some.is in
-    λ o. record {
+    let e = c.in_ok-slot.ensures in
+    let past : PastNodes c.args.self.now c.in_ok-slot.slot.number c.args.node = record {
+      task = c.in_ok-before.field-0.now;
+      held = c.in_ok-before.ensures.1;
+      past = omega (arith, c.if-node-nodes.true, c.from-node.ensures, ap length c.nodes.ensures.value);
+    } in
+    λ o. rw (← e.0) (record {
+      away = inr (c.in_ok-slot.slot.in_range, inr (e.1, inr (e.2, inr (c.in_ok-before.ensures.0 o, inl (past, refl)))));
+      unchanged = refl;
+    })
+
+pub returns-in_default : goal.returns-in_default
+returns-in_default c =
+    let e = c.in_ok-slot.ensures in
+    let there : c.args.node < length (nodes_of c.in_ok-before.field-0.now.table) =
+    omega (arith, c.if-node-nodes.false, c.from-node.ensures, ap length c.nodes.ensures.value) in
+    let bad = not_a_time c.args.time (λ some short. c.in_default.ensures (record { is_node = subst (λ (v : ℕ). v < length (nodes_of c.in_ok-before.field-0.now.table)) (sym c.from-node.ensures) there; some_time = some; short_time = short })) in
+    λ o. rw (← e.0) (record {
       away = inr (
-        e.1,
+        c.in_ok-slot.slot.in_range,
         inr (
-          e.2,
+          e.1,
           inr (
-            e.3,
-            inr (
-              (c.in-Some.before, held),
-              inl (
-                record { task = c.in-Some.before; held = held; past = omega (arith, c.if-node-nodes.true, ap length c.nodes.ensures.value) },
-                refl,
-              ),
-            ),
+            e.2,
+            inr (c.in_ok-before.ensures.0 o, inr ((c.in_ok-before.field-0.now, c.in_ok-before.ensures.1, there), inl (bad, refl))),
           ),
         ),
       );
       unchanged = refl;
-    }
+    })
 
-pub returns-in-Some-retimed : goal.returns-in-Some-retimed
-returns-in-Some-retimed c =
-    let e = c.in_ok-at.ensures in
-    let r = c.in-Some-retimed.ensures in
-    let held = read_at c.args.self.now.tasks c.in_ok-at.at c.args.slot c.index-self-at.result None (Some c.in-Some.before) e.0
-    (omega (arith, e.0, e.1, c.args.self.now.sized.0)) c.in-Some.is in
-    λ o. (
-      (e.1, (e.2, (e.3, ((c.in-Some.before, held), ((c.in-Some.before, held, r.0.is_node), ((r.0.some_time, r.0.short_time), tt)))))),
+pub returns : goal.returns
+returns c =
+    let e = c.in_ok-slot.ensures in
+    let before = c.in_ok-before.field-0.now in
+    let r = c.in-Some.ensures in
+    let there : c.args.node < length (nodes_of before.table) =
+    omega (arith, c.if-node-nodes.false, c.from-node.ensures, ap length c.nodes.ensures.value) in
+    λ o. rw (← e.0) (
+      (
+        c.in_ok-slot.slot.in_range,
+        (e.1, (e.2, (c.in_ok-before.ensures.0 o, ((before, c.in_ok-before.ensures.1, there), ((r.0.some_time, r.0.short_time), tt))))),
+      ),
       record {
-        before = c.in-Some.before;
-        held = held;
-        task = c.in-Some-retimed.task;
-        one_time = r.1;
-        put = subst (λ (x : ℕ). Put c.args.self.now x c.in-Some-retimed.task c.put.result c.put.new.self) e.0 c.put.ensures.put;
+        before = before;
+        held = c.in_ok-before.ensures.1;
+        task = c.in-Some.task;
+        one_time = r.1 ∙ ap (λ (v : ℕ). retimed before.table v c.args.time) c.from-node.ensures;
+        put = c.put.ensures.put;
         same_waited = c.put.ensures.waits;
       },
     )
-
-pub returns-in-None : goal.returns-in-None
-returns-in-None c =
-    let e = c.in_ok-at.ensures in
-    let held = read_at c.args.self.now.tasks c.in_ok-at.at c.args.slot c.index-self-at.result None (Some c.in-Some.before) e.0
-    (omega (arith, e.0, e.1, c.args.self.now.sized.0)) c.in-Some.is in
-    let there : c.args.node < length (nodes_of c.in-Some.before.table) = omega (arith, c.if-node-nodes.false, ap length c.nodes.ensures.value) in
-    λ o. record {
-      away = inr (
-        e.1,
-        inr (
-          e.2,
-          inr (
-            e.3,
-            inr (
-              (c.in-Some.before, held),
-              inr (
-                (c.in-Some.before, held, there),
-                inl (
-                  not_a_time c.args.time (λ some short. c.in-None.ensures (record { is_node = there; some_time = some; short_time = short })),
-                  refl,
-                ),
-              ),
-            ),
-          ),
-        ),
-      );
-      unchanged = refl;
-    }

@@ -1,5 +1,0 @@
-use Rattle.held_jobs.proofs.Step.{step_holds_lem}
-use Rattle.held_jobs.proofs.theorems.step_holds.Goals as goal
-
-pub returns : goal.returns
-returns c = step_holds_lem

@@ -1,3 +1,0 @@
-pub mod Job
-pub mod Sharing
-pub mod Statements
