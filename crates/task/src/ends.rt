@@ -30,7 +30,7 @@ impl Graph<'_> {
         self.may_meet(end, v) && !set.has(v)
     }
 
-    // The nodes that begin the first units of their regions, where arcs stop; those that end the last, where arcs start.
+    // The nodes that are first in their regions, where arcs stop, or last, where they start.
     pub(crate) fn outermost(&self, end: ArcEnd) -> BitSet
         ensures { Marks (Outermost self.now.nodes.now self.now.arcs.now end) result }
     {
