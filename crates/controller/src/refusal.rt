@@ -6,7 +6,7 @@ ghost use Rattle.controller.specs.Refusals.{refusal_number, refusal_added};
 use bounds::Passed;
 use task::Refusal as TableRefusal;
 
-#[derive(Clone, Copy, Drop)]
+#[derive(Clone, Copy, Debug, PartialEq, Eq, Drop)]
 pub enum Refusal {
     // the cores are not 1 to 16
     Cores,
