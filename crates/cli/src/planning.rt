@@ -38,6 +38,7 @@ impl fmt::Display for Row<'_> {
         write!(f, "{slot:>4} {name:<12} ")?;
         write!(f, "{:>8} {:>8} ", demand.period, demand.deadline)?;
         write!(f, "{:>7} {:>7} ", demand.longest, demand.total)?;
+        // to the right of its column, which the share's own Display does not do
         let tenths = self.share().tenths();
         write!(f, "{:>5}.{}%", tenths / 10, tenths % 10)
     }
