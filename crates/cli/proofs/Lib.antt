@@ -1,2 +1,2 @@
-mod CheckLines
+mod PlanLines
 mod Judging

@@ -70,7 +70,7 @@ pub enum Misuse<'a> {
 }
 
 // What the words after the program's own name ask for.
-#[tactic(auto, using(crate::proofs::CheckLines::check_line, crate::proofs::CheckLines::plan_line))]
+#[tactic(auto, using(crate::proofs::PlanLines::plan_line))]
 pub fn parse(words: &[String]) -> Result<Command<'_>, Misuse<'_>>
     ensures { Parsed words.now result }
 {

@@ -34,6 +34,7 @@ impl fmt::Display for LongestPath<'_> {
     fn fmt<W: fmt::Write>(&self, f: &mut fmt::Formatter<W>) -> fmt::Result {
         let lengths = Lengths::of(self.0);
         let path = iter::successors(Some(lengths.start()), |&at| lengths.next(at));
+        // a task has at most 64 nodes
         write_list(f, path.take(64), " -> ")
     }
 }

@@ -38,6 +38,7 @@ impl fmt::Display for Row<'_> {
         write!(f, "{slot:>4} {name:<12} ")?;
         write!(f, "{:>8} {:>8} ", demand.period, demand.deadline)?;
         write!(f, "{:>7} {:>7} ", demand.longest, demand.total)?;
+        // to the right of its column, which the share's own Display does not do
         let tenths = self.share().tenths();
         write!(f, "{:>5}.{}%", tenths / 10, tenths % 10)
     }
@@ -72,7 +73,7 @@ impl fmt::Display for NotAdmitted {
     }
 }
 
-// What the tasks ask, by slot.
+// What the tasks ask, by slot: the array that a plan is made of.
 pub(crate) type Slots = [Option<Demand>; 16];
 
 // Puts what a task asks into its slot.
@@ -86,7 +87,7 @@ pub(crate) fn seat(slots: &mut Slots, slot: u8, demand: Demand)
 }
 
 // The least bounds of the tasks, or why there are none.
-#[tactic(auto, using(crate::proofs::Judging::answered, crate::proofs::Judging::refused))]
+#[tactic(auto, using(crate::proofs::Judging::answered))]
 pub(crate) fn admit(cores: u8, order: Precedence, slots: Slots) -> Result<[u32; 16], NotAdmitted>
     ensures { Judged cores order slots result }
 {

@@ -72,6 +72,7 @@ fn plan(rt: &HostRuntime, file: &str) -> io::Result<bool> {
 
 // Reports on the plan in the text of a file, and says whether all its tables were taken; or what is wrong with the text.
 pub fn report_text(rt: &HostRuntime, file: &str, text: &str) -> io::Result<Result<bool, Flaw>> {
+    // a `?` passes on one kind of error only, and a flaw is not this one
     match plans::parse::parse(rt.alloc(), text) {
         Ok(plan) => Ok(Ok(report_plan(rt, file, &plan)?)),
         Err(flaw) => Ok(Err(flaw)),

@@ -1,4 +1,5 @@
 // The words by which a person is told of kinds, fields and counts.
+// Kinds and fields are types of another crate, and a kind goes by several words: so functions, and no Display.
 ghost use Rattle.std.specs.Iterator.{IsFinite};
 
 use std::fmt;

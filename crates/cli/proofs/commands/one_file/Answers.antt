@@ -1,5 +1,5 @@
 use Rattle.std.proofs.Common.{rules}
-use Rattle.cli.proofs.CheckLines.{one_listed}
+use Rattle.cli.proofs.PlanLines.{one_listed}
 use Rattle.cli.proofs.commands.one_file.Goals as goal
 
 pub returns-in-len1 : goal.returns-in-len1

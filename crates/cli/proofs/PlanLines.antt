@@ -1,25 +1,13 @@
--- A command line that asks for a check or a plan, by its parts.
-use Rattle.std.proofs.Common.{◌≡◌, ℕ, ◌-◌, ◌≤◌, false, eqb, List, [], ◌∷◌, length, get_or, take, drop, Ok, Err, string_bytes, Result, String, sym, ap, ◌∙◌, subst, arith, Bor}
+-- A command line that asks for a plan, by its parts.
+use Rattle.std.proofs.Common.{◌≡◌, ℕ, ◌-◌, ◌≤◌, List, [], ◌∷◌, length, get_or, take, drop, Ok, Err, string_bytes, Result, String, sym, ap, subst, arith}
 use Rattle.std.proofs.lemmas.List.{take_all}
-use Rattle.std.proofs.lemmas.Bool.{eqb-false}
 use Rattle.std.specs.declared.alloc.Global.{Global}
 use Rattle.cli.specs.Lines.{Asked, OneFile, Parsed}
-use Rattle.cli.specs.Words.{AsksCheck, AsksPlan}
+use Rattle.cli.specs.Words.{AsksPlan}
 use Rattle.cli.specs.declared.commands.Command.{Command}
 use Rattle.cli.specs.declared.commands.Command.TheVariants.{Help, Check, Plan}
 use Rattle.cli.specs.declared.commands.Misuse.{Misuse}
 use Rattle.cli.specs.declared.commands.Misuse.TheVariants.{NoCommand, Unknown, NoFile, NotOneFile}
-
--- the first word asks for it, and the files are the words after that
-pub check_line
-    : (words : List (String Global)) (first : String Global) (files : Bor (List (String Global))) → 1 ≤ length words → first ≡ get_or words 0 first → AsksCheck (string_bytes first) → files.now ≡ take (length words - 1) (drop 1 words) → eqb (length files.now) 0 ≡ false → Parsed words (Ok (Check files))
-check_line [] first files some is asks part full =
-    absurd (omega (arith, some))
-check_line (w ∷ ws) first files some is asks part full =
-    let same : files.now ≡ ws = part ∙ take_all (length (w ∷ ws) - 1) ws (omega arith) in
-    let more : length files.now ≡ length ws = ap length same in
-    let ne : length files.now ≡ 0 → ⊥ = eqb-false (length files.now) 0 full in
-    (subst (λ x. AsksCheck (string_bytes x)) is asks, same, omega (arith, more, ne))
 
 -- a list of one
 pub one_listed : (xs : List (String Global)) (x : String Global) → length xs ≡ 1 → x ≡ get_or xs 0 x → xs ≡ x ∷ []
