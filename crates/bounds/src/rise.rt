@@ -85,7 +85,7 @@ pub fn least_bounds<O: Order>(order: &O, plan: &Plan) -> Result<[u32; 16], Passe
     ensures { Told (O.Order.means order.now).most plan.now result }
 {
     let mut rise = Rise::new(order, plan);
-    // the slots whose right side may be above their bound
+    // the slots whose right side may be above their bound; it grows while it is worked off, so this is no walk over a set
     let mut pending = plan.tasks();
     while let Some(k) = pending.least() {
         let slot = Slot::at(k);

@@ -117,6 +117,7 @@ fn write_arcs<W: fmt::Write>(
     arcs: &[Arc],
 ) -> fmt::Result {
     let mut label = "arcs";
+    // by number, since the nodes themselves are not needed
     for from in 0..nodes.len() {
         let targets = Targets { arcs, from };
         if !targets.is_empty() {

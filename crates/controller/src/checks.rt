@@ -95,7 +95,9 @@ impl Tables {
     pub(crate) fn slot_held(&self, slot: Slot) -> Result<&Task, Refusal>
         ensures { Checked self.now (slot_held slot.number) (λ τ. task_in self.now slot.number ≡ Some τ.now) result }
     {
-        self.board.tasks[slot.index()].as_ref().ok_or(Refusal::Empty)
+        self.board.tasks[slot.index()]
+            .as_ref()
+            .ok_or(Refusal::Empty)
     }
 
     // The bounds of the tasks as they are, where they have been admitted.

@@ -5,7 +5,8 @@ use bounds::Plan;
 use dispatch::board::Board;
 use dispatch::spot::Spots;
 
-// The tables of a controller.
+// The tables of a controller. They are columns by slot and no array of rows: a call's definition says in one equation what it
+// leaves of each column, and admission and the order take a column whole.
 #[derive(Drop)]
 pub struct Tables {
     // the cores, and by slot what its task asks of them

@@ -71,7 +71,11 @@ impl Tables {
     fn tasks_held(&self) -> u8
         ensures { result ≡ held_in self.now.board.tasks }
     {
-        self.board.tasks.iter().filter(|task| task.is_some()).count() as u8
+        self.board
+            .tasks
+            .iter()
+            .filter(|task| task.is_some())
+            .count() as u8
     }
 
     pub(crate) fn release(&mut self, slot: u8) -> Result<u32, Refusal>

@@ -119,6 +119,7 @@ impl OpenJob<'_> {
         requires { RightInSlot (task_nodes self.now.task.now) self.now.job.now.states slot spots.now outcomes.now }
         ensures { Moved spots.now outcomes.now slot self.now.job.now result }
     {
+        // a plain loop: each turn changes both the states and what was placed
         let mut later = self.job.aged();
         for core in 0..outcomes.len() {
             if let Some(node) = node_in(spot_on(spots, core), slot) {

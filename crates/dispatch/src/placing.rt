@@ -56,11 +56,13 @@ fn next_node(left: &[BitSet; 16], kept: &[BitSet; 16], ahead: &[BitSet; 16]) -> 
     first_ahead(&both, waiting, ahead).or_else(|| first_ahead(left, waiting, ahead))
 }
 
-// Fills the cores from core 0 up, as long as a node may come.
+// Fills the cores from core 0 up, as long as a node may come. That there are at most 16 is asked here, in `place` and in
+// `write_spots` alone, so that a type for it would be no plainer.
 fn fill(ready: &[BitSet; 16], kept: &[BitSet; 16], ahead: &[BitSet; 16], cores: u8) -> Placing
     requires { cores ≤ 16 }
     ensures { Placed (RowHas ready.now) (RowHas kept.now) (AheadIn ahead.now) cores result.spots result.busy }
 {
+    // a plain loop: each turn changes both what is left and the spots
     let mut left = *ready;
     let mut spots = [None; 16];
     for core in 0..cores {

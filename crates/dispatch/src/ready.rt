@@ -22,6 +22,7 @@ struct Pending {
 fn strike(arcs: &[Arc], under: BitSet, may: BitSet) -> BitSet
     ensures { Marks (Struck arcs.now under may (length arcs.now)) result }
 {
+    // arc by arc, where a selection would go over all arcs for each node
     let mut left = may;
     for arc in arcs {
         if under.has(arc.from as usize) && left.has(arc.to as usize) {

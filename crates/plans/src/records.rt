@@ -7,7 +7,7 @@ use table::records::{Arc, Node, Region, Role, Timing};
 // What stands for no home and for no mate.
 const NONE: u8 = 255;
 
-// The byte of a role, and that of its mate.
+// The byte of a role, and that of its mate: a pair that is taken apart at once.
 fn role_bytes(role: Role) -> (u8, u8)
     ensures { (result.0 ≡ role_byte role) × (result.1 ≡ mate_byte role) }
 {

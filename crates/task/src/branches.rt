@@ -9,7 +9,8 @@ use crate::graph::Graph;
 use sets::bit_set::BitSet;
 use table::records::{Node, Region};
 
-// The branches of an opening in which there are nodes.
+// The branches of an opening in which there are nodes. It asks only that branches are few, and goes over the nodes once, where a
+// selection would go over them for each branch.
 pub fn branches_of(nodes: &[Node], opening: usize) -> BitSet
     requires { BranchesFew nodes.now }
     ensures { Marks (HasBranch nodes.now opening) result }

@@ -10,6 +10,7 @@ impl Graph<'_> {
     fn home_opens(&self, v: usize) -> bool
         ensures { Says result (HomeOpens self.now.nodes.now v) }
     {
+        // a match: a proof knows nothing of what a closure answers that calls a method of the graph
         match self.home(v) {
             Some(home) => self.is_opening(home),
             None => true,

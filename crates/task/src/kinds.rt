@@ -31,6 +31,7 @@ impl Graph<'_> {
     fn is_exit(&self, u: usize, v: usize) -> bool
         ensures { Says result (ExitArc self.now.nodes.now u v) }
     {
+        // a match: a proof knows nothing of what a closure answers that calls a method of the graph
         match self.home(u) {
             Some(home) => self.ends_unit(u) && self.closes(v, home),
             None => false,

@@ -33,6 +33,7 @@ impl Graph<'_> {
     pub(crate) fn met_by(&self, kind: ArcKind, end: ArcEnd) -> BitSet
         ensures { Marks (MetBy self.now.nodes.now self.now.arcs.now kind end) result }
     {
+        // gathered arc by arc, where a selection would go over all arcs for each node
         let mut met = BitSet::EMPTY;
         for arc in self.arcs {
             if self.is_of_kind(kind, arc.from as usize, arc.to as usize) {
