@@ -30,6 +30,36 @@ ROWS = [
 ]
 
 
+KEPT_WORDS = set(
+    "fn let mut if else match for in while return pub crate self Self impl struct enum true false Some None Ok Err usize u8 u16 u32 "
+    "u64 i64 bool ref as loop break continue where use mod const type trait".split()
+)
+
+
+def shapes(folder):
+    """Functions of 14 tokens or more whose bodies differ in names and numbers alone."""
+    groups = {}
+    for path in sources(folder):
+        with open(path, encoding="utf-8") as text:
+            code = re.sub(r"//.*", "", text.read())
+        for found in re.finditer(r"\bfn (\w+)", code):
+            opening = re.compile(r"\n\s*\{\n|\) (?:-> [^\n{]+ )?\{\n").search(code, found.end())
+            if not opening:
+                continue
+            end, depth = opening.end(), 1
+            while end < len(code) and depth:
+                depth += {"{": 1, "}": -1}.get(code[end], 0)
+                end += 1
+            tokens = re.findall(r"\w+|[^\w\s]", code[opening.end():end - 1])
+            if len(tokens) < 14:
+                continue
+            shape = " ".join(
+                t if t in KEPT_WORDS else "0" if t[0].isdigit() else "x" if t[0].isalnum() or t[0] == "_" else t for t in tokens
+            )
+            groups.setdefault(shape, []).append(f"{os.path.relpath(path, folder)} {found.group(1)}")
+    return [group for group in groups.values() if len(group) > 1]
+
+
 def sources(folder):
     for path in sorted(glob.glob(os.path.join(folder, "crates", "*", "src", "*.rt"))):
         if not path.endswith("tests.rt"):
@@ -53,6 +83,11 @@ def main():
         if show:
             for path, number, line in found:
                 print(f"        {path}:{number}: {line}")
+    twins = shapes(folder)
+    print(f"{len(twins):4}  2c groups of functions of one shape")
+    if show:
+        for group in twins:
+            print("        " + ", ".join(group))
     answers = glob.glob(os.path.join(folder, "crates", "*", "proofs", "**", "Answers.antt"), recursive=True)
     invariants = glob.glob(os.path.join(folder, "crates", "*", "proofs", "**", "Invariants.antt"), recursive=True)
     lines = 0

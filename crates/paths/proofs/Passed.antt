@@ -8,7 +8,8 @@ use Rattle.sets.specs.Sets.{Has, ◌∪◌}
 use Rattle.task.specs.Graph.{IsNode, Joined}
 use Rattle.paths.specs.Paths.{Path, end, step, first, Passes, Chain, LeadsTo, Upwards, Listed, choice_of, ChoiceOver, node_weight, path_value}
 use Rattle.paths.specs.Instances.{node_alone, Passed}
-use Rattle.paths.specs.Unions.{in_left, in_right, in_either, has_alone, only_alone}
+use Rattle.sets.proofs.Unions.{in_left, in_right, in_either}
+use Rattle.paths.specs.Unions.{has_alone, only_alone}
 
 module _ (value : Path → BitSet) (u : ℕ) where
   in_choice : (p q : Path) (qs : List Path) → Listed p (q ∷ qs) → Has (value p) u → Has (choice_of ◌∪◌ value q qs) u

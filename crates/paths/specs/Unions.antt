@@ -8,7 +8,7 @@ use Rattle.std.proofs.lemmas.Bool.{cases_lt, cond-true, cond-false, lt-ltb, le-l
 use Rattle.table.specs.declared.records.Node.{Node}
 use Rattle.sets.specs.declared.bit_set.BitSet.{BitSet}
 use Rattle.sets.specs.Sets.{Has, With, ◌∪◌}
-use Rattle.sets.proofs.Bits.{bit, zero_or_one, pow_bit, or_bit}
+use Rattle.sets.proofs.Bits.{pow_bit}
 use Rattle.sets.proofs.Marked.{no_number, none_in_zero, only_pow, pow_only}
 use Rattle.paths.specs.Algebra.{LawfulAlgebra}
 use Rattle.paths.specs.Instances.{node_alone}
@@ -66,23 +66,6 @@ union_lawful =
       extension_left = union_left;
       extension_right = λ a b c. union_comm (a ∪ b) c ∙ union_left c a b ∙ ap₂ ◌∪◌ (union_comm c a) (union_comm c b);
     }
-
-pub in_left : (a b : BitSet) (n : ℕ) → Has a n → Has (a ∪ b) n
-in_left a b n h = or_bit a.bits b.bits n ∙ ap (λ (x : ℕ). bit_or x (bit b.bits n)) h ∙ one (zero_or_one (b.bits / 2 ^ n))
-  where
-    one : (bit b.bits n ≡ 0) ⊎ (bit b.bits n ≡ 1) → bit_or 1 (bit b.bits n) ≡ 1
-    one (inl e) = ap (bit_or 1) e
-    one (inr e) = ap (bit_or 1) e
-
-pub in_right : (a b : BitSet) (n : ℕ) → Has b n → Has (a ∪ b) n
-in_right a b n h = subst (λ (s : BitSet). Has s n) (union_comm b a) (in_left b a n h)
-
-pub in_either : (a b : BitSet) (n : ℕ) → Has (a ∪ b) n → Has a n ⊎ Has b n
-in_either a b n h = go (zero_or_one (a.bits / 2 ^ n))
-  where
-    go : (bit a.bits n ≡ 0) ⊎ (bit a.bits n ≡ 1) → Has a n ⊎ Has b n
-    go (inl e) = inr (sym (or_bit a.bits b.bits n ∙ ap (λ (x : ℕ). bit_or x (bit b.bits n)) e) ∙ h)
-    go (inr e) = inl e
 
 module _ (v : ℕ) (node : Node) where
   alone_is : v < 64 → node_alone v node ≡ of_bits (2 ^ v)

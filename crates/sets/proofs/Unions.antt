@@ -1,13 +1,10 @@
 -- What is in a union of two sets.
-use Rattle.std.specs.Prelude.{◌≡◌, ℕ, ◌/◌, ◌%◌, ◌^◌, ◌⊎◌, bit_or}
+use Rattle.std.specs.Prelude.{◌≡◌, ℕ, ◌/◌, ◌^◌, ◌⊎◌, bit_or}
 use Rattle.std.proofs.Common.{sym, ap, ◌∙◌, inl, inr}
-use Rattle.std.proofs.lemmas.Nat.{or_shr, or_mod, or_comm}
+use Rattle.std.proofs.lemmas.Nat.{or_comm}
 use Rattle.sets.specs.declared.bit_set.BitSet.{BitSet}
 use Rattle.sets.specs.Sets.{Has, ◌∪◌}
-use Rattle.sets.proofs.Bits.{bit, zero_or_one}
-
-or_bit : (a b n : ℕ) → bit (bit_or a b) n ≡ bit_or (bit a n) (bit b n)
-or_bit a b n = ap (λ (x : ℕ). x % 2) (or_shr a b n) ∙ or_mod (a / 2 ^ n) (b / 2 ^ n) 1
+use Rattle.sets.proofs.Bits.{bit, zero_or_one, or_bit}
 
 pub in_left : (a b : BitSet) (n : ℕ) → Has a n → Has (a ∪ b) n
 in_left a b n h = or_bit a.bits b.bits n ∙ ap (λ (x : ℕ). bit_or x (bit b.bits n)) h ∙ one (zero_or_one (b.bits / 2 ^ n))

@@ -7,7 +7,8 @@ use crate::settlement::Settlement;
 use crate::taken::{taken, total_of};
 use table::records::Node;
 
-// A settling with the greatest total, and that total.
+// A settling with the greatest total, and that total. That the nodes are nested is asked here and in the two functions called;
+// a type for it would be made and taken apart at each.
 pub(crate) fn worst_of(nodes: &[Node]) -> Settlement
     requires { Nested nodes.now }
     ensures { WorstSettlement nodes.now result }
