@@ -19,7 +19,7 @@ use Rattle.controller.specs.Calls.{Add, Remove, Retime}
 use Rattle.controller.specs.Effects.{Edited, Put, Added, Removed, Retimed}
 use Rattle.controller.specs.Promise.{Exact, AsTold}
 use Rattle.order.specs.Laws.{Meaning}
-use Rattle.controller.specs.State.{table_of, task_in, period, deadline, NoneOpen}
+use Rattle.controller.specs.State.{table_of, task_in, deadline, NoneOpen}
 use Rattle.controller.proofs.Deadlines.{deadline_is_told}
 use Rattle.controller.proofs.Epoch.{SameSlot, Parts, parts, waited_at, EpochBy, Sound}
 

@@ -1,5 +1,5 @@
 -- What a controller's tables say of its slots and its cores. Assumes nothing.
-use Rattle.std.specs.Prelude.{◌≡◌, ℕ, suc, ◌<◌, Bool, true, ◌⊎◌, List, [], ◌∷◌, ℤ, pos, ◌-ℤ◌, Some, None, Option, slice_index_or}
+use Rattle.std.specs.Prelude.{◌≡◌, ℕ, suc, ◌<◌, true, ◌⊎◌, List, [], ◌∷◌, pos, ◌-ℤ◌, Some, None, Option, slice_index_or}
 use Rattle.table.specs.declared.records.Table.{Table}
 use Rattle.task.specs.declared.held.Task.{Task}
 use Rattle.order.specs.declared.Party.{Party}

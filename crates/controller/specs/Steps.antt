@@ -1,5 +1,5 @@
 -- What the tables do once the order has been asked. Assumes nothing.
-use Rattle.std.specs.Prelude.{◌≡◌, ℕ, ◌-◌, ◌<◌, ◌≤◌, List, ◌++◌, drop, Some, None, Option, slice_index_or}
+use Rattle.std.specs.Prelude.{◌≡◌, ℕ, ◌<◌, List, ◌++◌, drop, Some, None, Option, slice_index_or}
 use Rattle.sets.specs.declared.bit_set.BitSet.{BitSet}
 use Rattle.sets.specs.Sets.{Marks}
 use Rattle.task.specs.declared.held.Task.{Task}
@@ -11,7 +11,7 @@ use Rattle.controller.specs.declared.precedence.Entrant.{Entrant}
 use Rattle.controller.specs.declared.tables.Tables.{Tables}
 use Rattle.controller.specs.Effects.{SameTasks}
 use Rattle.order.specs.Laws.{Meaning}
-use Rattle.controller.specs.State.{cores, party, period, held_in, Ticking, GoesAhead}
+use Rattle.controller.specs.State.{cores, party, held_in, Ticking, GoesAhead}
 
 -- the bounds are kept and told
 pub record BoundsKept (t : Tables) (bounds list : List ℕ) (n : ℕ) (after : List ℕ) (u : Tables) : Type 0 where
