@@ -15,7 +15,7 @@ pub struct Passed {
 }
 
 // A plan's bounds on their way up, and the caps at these bounds.
-// The plan is a copy: a struct with a reference beside an array of arrays gets no proof.
+// The plan is a copy: a struct with a reference beside an array of arrays has no proof made for it.
 #[derive(Drop)]
 pub(crate) struct Rise {
     pub(crate) plan: Plan,

@@ -128,7 +128,8 @@ fn write_arcs<W: fmt::Write>(
     Ok(())
 }
 
-// The nodes that the arcs of one node lead to.
+// The nodes that the arcs of one node lead to. The arcs are filtered where they are used, since a function cannot answer an iterator
+// without its type's name.
 #[derive(Clone, Copy, Debug, PartialEq, Eq, Drop)]
 struct Targets<'a> {
     arcs: &'a [Arc],

@@ -6,10 +6,11 @@ use Rattle.std.specs.Option.{ok_or, option_copied}
 use denote.Ref.{Bor}
 use Rattle.task.specs.declared.held.Task.{Task}
 use Rattle.dispatch.specs.declared.job.Job.{Job}
+use Rattle.dispatch.specs.declared.spot.Spot.{Spot}
 use Rattle.controller.specs.declared.refusal.Refusal.{Refusal}
-use Rattle.controller.specs.declared.refusal.Refusal.TheVariants.{Empty, NotAdmitted}
+use Rattle.controller.specs.declared.refusal.Refusal.TheVariants.{Empty, NotAdmitted, NoTick}
 use Rattle.controller.specs.declared.tables.Tables.{Tables}
-use Rattle.controller.specs.Checks.{Checked, slot_held, admitted}
+use Rattle.controller.specs.Checks.{Checked, slot_held, admitted, tick_open}
 use Rattle.order.specs.Laws.{Meaning}
 use Rattle.controller.specs.State.{task_in, SomeOpen, held_in}
 
@@ -53,3 +54,9 @@ pub admitted_checked : (t : Tables) (x : Option (List ℕ)) (r : Result (List �
     → Checked t admitted (λ bounds. t.bounds ≡ Some bounds) r
 admitted_checked t None r e f = rw f (λ o. (sym e, refl))
 admitted_checked t (Some bounds) r e f = rw f ((λ o. (bounds, sym e)), sym e)
+
+-- the open tick looked up
+pub ticking_checked : (t : Tables) (x : Option (List (Option Spot))) (r : Result (List (Option Spot)) Refusal) → x ≡ t.tick → r ≡ ok_or x NoTick
+    → Checked t tick_open (λ spots. t.tick ≡ Some spots) r
+ticking_checked t None r e f = rw f (λ o. (sym e, refl))
+ticking_checked t (Some spots) r e f = rw f ((λ o. (spots, sym e)), sym e)

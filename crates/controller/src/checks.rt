@@ -1,14 +1,25 @@
 // The checks of calls: each passes, or turns the call away under its refusal.
-ghost use Rattle.std.specs.Prelude.{◌≡◌, ℕ, ◌≤◌, List, [], ◌∷◌, length, Some, None, Ok, Err};
-ghost use Rattle.controller.specs.Checks.{Check, Checked, Decided, TurnedAway, slot_exists as slot_is_one, no_tick_open, no_job_open, slot_free, slot_held, admitted, period_over, earlier_ended, room_for_bounds, room_for_cores, bounds_exist};
-ghost use Rattle.controller.specs.declared.refusal.Refusal.TheVariants.{NoSlot};
+ghost use Rattle.std.specs.Prelude.{◌≡◌, ◌<◌, ◌≤◌, List, [], ◌∷◌, length, Some, None, Ok, Err};
+ghost use Rattle.controller.specs.Checks.{Check, Checked, Decided, TurnedAway, slot_exists as slot_is_one, no_tick_open, no_job_open, slot_free, slot_held, tick_open, admitted, period_over, earlier_ended, room_for_bounds, room_for_cores, bounds_exist};
+ghost use Rattle.controller.specs.declared.refusal.Refusal.TheVariants.{NoSlot, ShortList};
 ghost use Rattle.order.specs.Laws.{Meaning};
 ghost use Rattle.controller.specs.State.{cores, task_in, NoneOpen};
 
 use crate::refusal::Refusal;
 use crate::tables::Tables;
+use dispatch::spot::Spots;
 use order::Slot;
 use task::Task;
+
+// A list of so many entries has as many as are needed.
+fn has_room(entries: usize, needed: usize) -> Result<(), Refusal>
+    ensures { elim result [ Ok _ ↦ needed ≤ entries | Err e ↦ (entries < needed) × (e ≡ ShortList needed) ] }
+{
+    if entries < needed {
+        return Err(Refusal::ShortList { needed });
+    }
+    Ok(())
+}
 
 // The slot of that number.
 pub(crate) fn slot_exists(number: u8) -> Result<Slot, Refusal>
@@ -60,9 +71,7 @@ impl Tables {
     {
         self.no_tick_open()?;
         self.no_job_open()?;
-        if list.len() < 16 {
-            return Err(Refusal::ShortList { needed: 16 });
-        }
+        has_room(list.len(), 16)?;
         Ok(())
     }
 
@@ -74,14 +83,18 @@ impl Tables {
         ] }
     {
         self.no_tick_open()?;
-        let needed = usize::from(self.plan.cores);
-        if list.len() < needed {
-            return Err(Refusal::ShortList { needed });
-        }
+        has_room(list.len(), usize::from(self.plan.cores))?;
         Ok(())
     }
 
-    // The slot holds no task.
+    // What the cores run, while a tick is open.
+    pub(crate) fn tick_open(&self) -> Result<Spots, Refusal>
+        ensures { Checked self.now tick_open (λ spots. self.now.tick ≡ Some spots) result }
+    {
+        self.tick.ok_or(Refusal::NoTick)
+    }
+
+    // The slot holds no task. It differs from `earlier_ended` in all that it says: the column, the check and the refusal.
     pub(crate) fn slot_free(&self, slot: Slot) -> Result<(), Refusal>
         ensures { Decided self.now (slot_free slot.number) result }
     {

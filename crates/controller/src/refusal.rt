@@ -47,8 +47,8 @@ pub enum Refusal {
 impl From<TableRefusal> for Refusal {
     ghost from_gives = { λ told refusal. refusal ≡ Table told };
 
-    fn from(refusal: TableRefusal) -> Refusal {
-        Refusal::Table(refusal)
+    fn from(refusal: TableRefusal) -> Self {
+        Self::Table(refusal)
     }
 }
 
@@ -56,8 +56,8 @@ impl From<Passed> for Refusal {
     ghost from_gives = { λ _ refusal. refusal ≡ NoBounds };
 
     // No bounds keep every deadline: that is told of all slots, not of the one that passed its own.
-    fn from(_passed: Passed) -> Refusal {
-        Refusal::NoBounds
+    fn from(_passed: Passed) -> Self {
+        Self::NoBounds
     }
 }
 

@@ -108,9 +108,7 @@ impl Tables {
     pub(crate) fn close_tick(&mut self, outcomes: &[u8]) -> Result<u16, Refusal>
         ensures { (o : Meaning) → CloseDoes o self.old outcomes.now result self.new }
     {
-        let Some(spots) = self.tick else {
-            return Err(Refusal::NoTick);
-        };
+        let spots = self.tick_open()?;
         let cores = usize::from(self.plan.cores);
         if outcomes.len() != cores {
             return Err(Refusal::Outcomes { cores });

@@ -1,4 +1,4 @@
-// The tasks and their open jobs.
+// What a tick works on.
 ghost use Rattle.std.specs.Prelude.{◌≡◌};
 ghost use Rattle.dispatch.specs.Tables.{no_tasks, OpenAt};
 

@@ -114,7 +114,8 @@ impl OpenJob<'_> {
         self.state_after(v, outcome).is_some()
     }
 
-    // The job one tick later, in its slot.
+    // The job one tick later, in its slot. The spots are the controller's and the outcomes a caller's, so that they meet only here and in
+    // the calls that lead here.
     fn moved(&self, slot: u8, spots: &Spots, outcomes: &[u8]) -> Job
         requires { RightInSlot (task_nodes self.now.task.now) self.now.job.now.states slot spots.now outcomes.now }
         ensures { Moved spots.now outcomes.now slot self.now.job.now result }
@@ -183,6 +184,7 @@ impl Board {
         ensures tasks { self.new.tasks ≡ self.old.tasks }
         ensures closed { Closed self.old.tasks self.old.jobs spots.now outcomes.now result self.new.jobs }
     {
+        // a plain loop: each turn changes both the jobs and what is told
         let mut ended = 0;
         for slot in 0..16u8 {
             let at = slot as usize;

@@ -34,6 +34,7 @@ fn least_node(nodes: BitSet) -> Option<u8>
 fn first_ahead(nodes: &[BitSet; 16], waiting: BitSet, ahead: &[BitSet; 16]) -> Option<Spot>
     ensures { MatchOption result (NoneAhead nodes.now waiting ahead.now 16) (λ p. FirstAhead nodes.now waiting ahead.now p.slot p.node) }
 {
+    // by slot, since the first that passes is answered together with its node
     for slot in 0..16 {
         if let Some(node) = least_node(nodes[slot]) {
             if waiting.is_within(ahead[slot]) {
@@ -85,7 +86,8 @@ impl Board {
             .map_or(BitSet::EMPTY, |open| open.ready_nodes())
     }
 
-    // The ready nodes by slot.
+    // The ready nodes by slot; by index, as are the two functions here, since that is what `from_fn` gives. What `kept` differs in is all
+    // that it says.
     fn ready(&self) -> [BitSet; 16]
         ensures { (s : ℕ) → s < 16 → Marks (ReadyIn self.now.tasks self.now.jobs s) (row result s) }
     {

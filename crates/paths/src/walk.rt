@@ -59,7 +59,8 @@ impl<'a, P: PathAlgebra> PathSearch<'a, P> {
     }
 }
 
-// The nodes that have a path to a goal; the value of each is written to its place.
+// The nodes that have a path to a goal; the value of each is written to its place. It asks only that arcs lead upwards, which is
+// less than that a task's graph is in range, and goes from the last node to the first, since arcs lead upwards.
 pub fn walk<P: PathAlgebra>(
     algebra: &P,
     nodes: &[Node],

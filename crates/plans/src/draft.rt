@@ -140,6 +140,7 @@ impl<'a> Draft<'a> {
         if words.is_empty() {
             return Ok(());
         }
+        // a match: either way the draft itself goes on
         match statement_of(&words) {
             Ok(statement) => self.take(statement, number),
             Err(what) => Err(self.blame(&words, number, what)),

@@ -18,6 +18,7 @@ impl BitSet {
         requires callable { (k : ℕ) → k < n → F.pre test k }
         ensures { Selects (F.post test) n result }
     {
+        // the one loop by number, for all that gather by a test
         let mut set = BitSet::EMPTY;
         for k in 0..n {
             if test(k) {

@@ -24,6 +24,7 @@ impl<T: Copy, const N: usize> FixedList<T, N> {
         requires { self.old.len < N }
         ensures { self.new ≡ record { items = slice_set self.old.items self.old.len item; len = self.old.len + 1 } }
     {
+        // the length is a field, and counts no loop
         self.items[self.len] = item;
         self.len += 1;
     }

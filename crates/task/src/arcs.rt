@@ -11,6 +11,7 @@ impl Graph<'_> {
     pub(crate) fn arcs_are_lawful(&self) -> Option<usize>
         ensures { Tried (LawfulArc self.now.nodes.now self.now.arcs.now) (length self.now.arcs.now) result }
     {
+        // a plain loop: it carries along what it has seen
         let mut seen = ArcSet::new();
         for (k, arc) in self.arcs.iter().enumerate() {
             let (u, v) = (arc.from as usize, arc.to as usize);

@@ -38,7 +38,7 @@ impl Graph<'_> {
         BitSet::select(self.nodes.len(), |v| self.meets_outside(end, met, v))
     }
 
-    // Whether a node is in the set and lies in the region.
+    // Whether a node is in the set and lies in the region. The two are asked of together in three functions that call one another.
     fn is_within(&self, region: Region, set: BitSet, v: usize) -> bool
         requires { IsNode self.now.nodes.now v }
         ensures { Says result (Within self.now.nodes.now region set v) }

@@ -15,7 +15,7 @@ pub struct Graph<'a> {
 }
 
 impl Graph<'_> {
-    // The role of a node.
+    // The role of a node. What it differs in from `region` is all that it says.
     pub(crate) fn role(&self, v: usize) -> Role
         ensures { result ≡ role self.now.nodes.now v }
     {

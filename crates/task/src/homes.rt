@@ -10,14 +10,14 @@ impl Graph<'_> {
     fn home_opens(&self, v: usize) -> bool
         ensures { Says result (HomeOpens self.now.nodes.now v) }
     {
-        // a match: a proof knows nothing of what a closure answers that calls a method of the graph
+        // a match: what a closure answers here, a proof knows only by a clause of the closure's own
         match self.home(v) {
             Some(home) => self.is_opening(home),
             None => true,
         }
     }
 
-    // The first node whose home is no opening.
+    // The first node whose home is no opening. Each rule is tried by such a line, which names it and says no more.
     pub(crate) fn homes_are_openings(&self) -> Option<usize>
         ensures { Tried (HomeOpens self.now.nodes.now) (length self.now.nodes.now) result }
     {

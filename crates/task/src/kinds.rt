@@ -5,6 +5,7 @@ ghost use Rattle.sets.specs.Tests.{Says};
 
 use crate::graph::Graph;
 
+// An enum, and no test handed over: the definitions speak of the kinds by these names.
 #[derive(Clone, Copy, Debug, PartialEq, Eq, Drop)]
 pub(crate) enum ArcKind {
     // from unit to unit inside one region
@@ -31,7 +32,7 @@ impl Graph<'_> {
     fn is_exit(&self, u: usize, v: usize) -> bool
         ensures { Says result (ExitArc self.now.nodes.now u v) }
     {
-        // a match: a proof knows nothing of what a closure answers that calls a method of the graph
+        // a match: what a closure answers here, a proof knows only by a clause of the closure's own
         match self.home(u) {
             Some(home) => self.ends_unit(u) && self.closes(v, home),
             None => false,

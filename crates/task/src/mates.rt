@@ -21,7 +21,7 @@ impl Graph<'_> {
     fn closed_once(&self, opening: usize) -> bool
         ensures { Says result (ClosedOnce self.now.nodes.now opening) }
     {
-        // a match: a proof knows nothing of what a closure answers that calls a method of the graph
+        // a match: what a closure answers here, a proof knows only by a clause of the closure's own
         match self.closings_of(opening).only() {
             Some(closing) => self.side_by_side(closing, opening),
             None => false,

@@ -51,7 +51,7 @@ impl Graph<'_> {
     fn is_gated(&self, gates: Gates, v: usize) -> bool
         ensures { Says result (Gated self.now.nodes.now gates v) }
     {
-        // a match: a proof knows nothing of what a closure answers that calls a method of the graph
+        // a match: what a closure answers here, a proof knows only by a clause of the closure's own
         match self.home(v) {
             Some(_) => gates.agree_at(v),
             None => true,

@@ -120,15 +120,21 @@ fn sixteen(rt: &HostRuntime, lamp: Task) -> anyhow::Result<()> {
     )
 }
 
+// The task in a file; none, which is told, where it describes none.
+fn task_in(rt: &HostRuntime, name: &str) -> anyhow::Result<Option<Task>> {
+    let bytes = fs::read(rt, name)?;
+    let Ok(task) = Task::read(bytes.as_slice()) else {
+        println!(rt; "{name} is no task")?;
+        return Ok(None);
+    };
+    Ok(Some(task))
+}
+
 fn main(rt: HostRuntime) -> anyhow::Result<()> {
-    let bytes = fs::read(&rt, "lamp.table")?;
-    let Ok(lamp) = Task::read(bytes.as_slice()) else {
-        println!(rt; "lamp.table is no task")?;
+    let Some(lamp) = task_in(&rt, "lamp.table")? else {
         return Ok(());
     };
-    let bytes = fs::read(&rt, "splice.table")?;
-    let Ok(splice) = Task::read(bytes.as_slice()) else {
-        println!(rt; "splice.table is no task")?;
+    let Some(splice) = task_in(&rt, "splice.table")? else {
         return Ok(());
     };
     alone(&rt, lamp)?;

@@ -1,4 +1,5 @@
 -- The response-time theorem where a tick may bring a ready node any outcome, allowed or not. Assumes nothing.
+-- It stands beside specs/Run and specs/Statements clause by clause, so that a reader can hold the two forms side by side.
 use Rattle.std.specs.Prelude.{◌≡◌, ℕ, ◌+◌, ◌<◌, ◌≤◌, ◌⊎◌, List, [], ◌∷◌, length}
 use Rattle.std.specs.List.{AllByRecursion}
 use Rattle.timing.specs.Jobs.{Turn, turns_of, LawsIn}

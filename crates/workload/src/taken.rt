@@ -28,6 +28,7 @@ pub(crate) fn taken(nodes: &[Node], picks: &Picks) -> BitSet
     requires { Nested nodes.now }
     ensures { Marks (TakenNode nodes.now (pick_of picks.now)) result }
 {
+    // a plain loop: whether a node is taken depends on those taken so far
     let mut taken = BitSet::EMPTY;
     for (v, node) in nodes.iter().enumerate() {
         if leads_into(node.region, picks, taken) {
@@ -42,6 +43,7 @@ pub(crate) fn total_of(nodes: &[Node], taken: BitSet) -> u64
     requires { length nodes.now ≤ 64 }
     ensures { (pick : ℕ → ℕ) → Marks (TakenNode nodes.now pick) taken → result ≡ total_time nodes.now pick }
 {
+    // a plain sum: the loop keeps its bound, which a chain would ask of callers
     let mut total = 0;
     for (number, node) in nodes.iter().enumerate() {
         if taken.has(number) {

@@ -1,4 +1,4 @@
-use Rattle.std.proofs.Common.{refl, inl, inr, arith}
+use Rattle.std.proofs.Common.{inl, inr}
 use Rattle.std.proofs.lemmas.Result.{err_from_is_err_and}
 use Rattle.controller.proofs.Deciding.{no_order}
 use Rattle.controller.proofs.tables.Tables.may_admit.Goals as goal
@@ -13,8 +13,10 @@ returns-in_err-no_job_open c =
     let p = err_from_is_err_and c.from_residual-in_err-no_job_open.result c.from_residual-in_err-no_job_open.ensures.1 in
     rw (p.1, p.2) (λ o. inr (c.in_ok-no_tick_open.ensures o, inl (c.in_err-no_job_open.ensures o)))
 
-pub returns-then-list-lt16 : goal.returns-then-list-lt16
-returns-then-list-lt16 c = λ o. inr (c.in_ok-no_tick_open.ensures o, inr (c.in_ok-no_job_open.ensures o, inl (c.if-list-lt16.true, refl)))
+pub returns-in_err-has_room : goal.returns-in_err-has_room
+returns-in_err-has_room c =
+    let p = err_from_is_err_and c.from_residual-in_err-has_room.result c.from_residual-in_err-has_room.ensures.1 in
+    rw (p.1, p.2) (λ o. inr (c.in_ok-no_tick_open.ensures o, inr (c.in_ok-no_job_open.ensures o, inl c.in_err-has_room.ensures)))
 
 pub returns : goal.returns
-returns c = (c.in_ok-no_tick_open.ensures no_order, c.in_ok-no_job_open.ensures no_order, omega arith)
+returns c = (c.in_ok-no_tick_open.ensures no_order, c.in_ok-no_job_open.ensures no_order, c.in_ok-has_room.ensures)
