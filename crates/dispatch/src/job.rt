@@ -24,7 +24,7 @@ impl Job {
     {
         Job {
             states: [NodeState::Untouched; 64],
-            placed: BitSet::EMPTY,
+            placed: BitSet::EMPTY, // of this job, whatever its slot had before
             age: 0,
         }
     }
