@@ -1,8 +1,8 @@
 // What the outcomes of a tick bring to the open jobs.
-ghost use Rattle.std.specs.Prelude.{◌≡◌, ℕ, ◌<◌, ◌≤◌, length, Some, None, MatchOption, ◌≢◌};
+ghost use Rattle.std.specs.Prelude.{◌≡◌, ℕ, ◌<◌, ◌≤◌, length, Some, None, Ok, Err, MatchOption, ◌≢◌};
 ghost use Rattle.jobs.specs.Job.{IsEnded, JobEnded, ticks, next};
 ghost use Rattle.sets.specs.Sets.{Has, Marks};
-ghost use Rattle.sets.specs.Tests.{Says, Tried};
+ghost use Rattle.sets.specs.Tests.{Says, FailsFirst, Tried};
 ghost use Rattle.table.specs.declared.records.Role.TheVariants.{Opening};
 ghost use Rattle.task.specs.Graph.{BranchesFew, HasBranch, role as role_at};
 ghost use Rattle.dispatch.specs.Closing.{Right, RightOn, AllRight, Moved, Closed};
@@ -199,5 +199,18 @@ impl Board {
             }
         }
         ended
+    }
+
+    // Closes a tick, or tells the first core whose outcome is not right, and then nothing has changed.
+    pub fn try_close(&mut self, spots: &Spots, outcomes: &[u8]) -> Result<u16, usize>
+        ensures { elim result [
+          | Ok mask ↦ AllRight self.old.tasks self.old.jobs spots.now outcomes.now × Closed self.old.tasks self.old.jobs spots.now outcomes.now mask self.new.jobs × (self.new.tasks ≡ self.old.tasks)
+          | Err core ↦ FailsFirst (RightOn self.old.tasks self.old.jobs spots.now outcomes.now) (length outcomes.now) core × (self.new ≡ self.old)
+        ] }
+    {
+        match self.first_wrong(spots, outcomes) {
+            Some(core) => Err(core),
+            None => Ok(self.close(spots, outcomes)),
+        }
     }
 }

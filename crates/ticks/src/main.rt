@@ -43,9 +43,9 @@ fn tick(
         }
     }
     let told = &outcomes[..cores];
-    match board.first_wrong(&placing.spots, told) {
-        Some(core) => println!(rt; "; wrong on core {core}")?,
-        None => println!(rt; "; ended {}", board.close(&placing.spots, told))?,
+    match board.try_close(&placing.spots, told) {
+        Ok(ended) => println!(rt; "; ended {ended}")?,
+        Err(core) => println!(rt; "; wrong on core {core}")?,
     }
     Ok(())
 }
