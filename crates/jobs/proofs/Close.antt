@@ -30,7 +30,7 @@ pick_of (Ended b) = b
 abbrev pub picks_so_far : List NodeState → ℕ → ℕ
 picks_so_far job o = pick_of (state job o)
 
-module _ (ns : List Node) (arcs : List Arc) (job : List NodeState) (ran : ℕ → ℕ) (r : Ranged ns arcs) (s : Shaped ns arcs) (c : Counted ns job ran) where
+module _ {places : ℕ} (ns : List Node) (arcs : List Arc) (job : List NodeState) (ran : ℕ → ℕ) (r : Ranged ns arcs) (s : Shaped ns arcs) (c : Counted places ns job ran) where
   pub picks_settle : Settling ns (picks_so_far job)
   picks_settle o op = go (state job o) refl
     where

@@ -21,7 +21,8 @@ pub record NodeCounted (ns : List Node) (job : List NodeState) (v ran : ℕ) (he
   pub ran_below : IsNode ns v → (IsEnded here → ⊥) → ran < time ns v
   pub ran_within : ran ≤ time ns v
 
-pub record Counted (ns : List Node) (job : List NodeState) (ran : ℕ → ℕ) : Type 0 where
+pub record Counted (places : ℕ) (ns : List Node) (job : List NodeState) (ran : ℕ → ℕ) : Type 0 where
+  pub long : length job ≡ places
   pub room : length ns ≤ length job
   pub each : (v : ℕ) → NodeCounted ns job v (ran v) (state job v)
 
@@ -43,7 +44,7 @@ untouched_counted ns arcs r job v =
       ran_within = omega arith;
     }
 
-module _ (ns : List Node) (arcs : List Arc) (job : List NodeState) (ran : ℕ → ℕ) (outcome : ℕ → Outcome) (c : Counted ns job ran) (ok : Allowed ns arcs job outcome) where
+module _ {places : ℕ} (ns : List Node) (arcs : List Arc) (job : List NodeState) (ran : ℕ → ℕ) (outcome : ℕ → Outcome) (c : Counted places ns job ran) (ok : Allowed ns arcs job outcome) where
   -- one node over one tick, by its outcome
   node_counted : (v : ℕ) (o : Outcome) → outcome v ≡ o → NodeCounted ns (after outcome job) v (ran v + ran_now o) (next o (state job v))
   node_counted v idle e =
@@ -83,18 +84,20 @@ module _ (ns : List Node) (arcs : List Arc) (job : List NodeState) (ran : ℕ �
         ran_within = omega arith;
       }
 
-  counted_after : Counted ns (after outcome job) (λ v. ran v + ran_now (outcome v))
+  counted_after : Counted places ns (after outcome job) (λ v. ran v + ran_now (outcome v))
   counted_after =
       record {
+        long = length_after outcome job ∙ c.long;
         room = omega (arith, length_after outcome job, c.room);
         each = λ v.
             subst (NodeCounted ns (after outcome job) v (ran v + ran_now (outcome v))) (sym (tick_state ns arcs job outcome c.room ok v))
             (node_counted v (outcome v) refl);
       }
 
-pub counted : {places : ℕ} (ns : List Node) (arcs : List Arc) → Ranged ns arcs → (job : List NodeState) (ran : ℕ → ℕ) → Reached places ns arcs job ran → Counted ns job ran
+pub counted : {places : ℕ} (ns : List Node) (arcs : List Arc) → Ranged ns arcs → (job : List NodeState) (ran : ℕ → ℕ) → Reached places ns arcs job ran → Counted places ns job ran
 counted {places} ns arcs r _ _ (at_release room) =
     record {
+      long = length-replicate places Untouched;
       room = omega (arith, length-replicate places Untouched, room);
       each = λ v. subst (NodeCounted ns (released places) v 0) (sym (state_released places v)) (untouched_counted ns arcs r (released places) v);
     }
