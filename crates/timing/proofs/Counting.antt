@@ -60,6 +60,9 @@ apart_same k f = grind (arith, nat_tests)
 pub apart_other : (k i : ℕ) (f : ℕ → ℕ) → (i ≡ k → ⊥) → apart_from k f i ≡ f i
 apart_other k i f h = grind (arith, nat_tests)
 
+pub apart_le : (k i : ℕ) (f : ℕ → ℕ) → apart_from k f i ≤ f i
+apart_le k i f = grind (arith, nat_tests)
+
 sum_to_apart_above : (n k : ℕ) (f : ℕ → ℕ) → n ≤ k → sum_to n (apart_from k f) ≡ sum_to n f
 unfolding sum_to
 sum_to_apart_above zero k f h = refl

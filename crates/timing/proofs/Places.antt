@@ -83,6 +83,22 @@ module _ {O : Type 0} where
       go true e rest = (subst (λ (i : ℕ). P i c.turn) (sym (eqb-true k c.slot e)) h.0, rest)
       go false e rest = rest
 
+-- what holds of the turns of each slot holds of every place
+pub places_by_turns : {O : Type 0} (P : ℕ → Turn O → Type 0) (cs : List (Place O)) → ((k : ℕ) → AllByRecursion (P k) (turns_for k cs)) → AllByRecursion (λ c. P c.slot c.turn) cs
+places_by_turns P [] h = tt
+places_by_turns P (c ∷ cs) h = (here (eqb c.slot c.slot) (same c.slot) (h c.slot), places_by_turns P cs (λ k. rest k (eqb k c.slot) (h k)))
+  where
+    same : (k : ℕ) → eqb k k ≡ true
+    same k = grind (arith, nat_tests)
+
+    here : (b : Bool) → b ≡ true → AllByRecursion (P c.slot) (cond b (c.turn ∷ turns_for c.slot cs) (turns_for c.slot cs)) → P c.slot c.turn
+    here true e all = all.0
+    here false e all = absurd (grind arith)
+
+    rest : (k : ℕ) (b : Bool) → AllByRecursion (P k) (cond b (c.turn ∷ turns_for k cs) (turns_for k cs)) → AllByRecursion (P k) (turns_for k cs)
+    rest k true all = all.1
+    rest k false all = all
+
 module _ (y : System) (s : State y) (cs : List (Place y.Outcome)) (may : MayTick y s cs) where
   abbrev turns : Turns y
   turns k = turns_for k cs
