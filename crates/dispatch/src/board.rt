@@ -35,8 +35,19 @@ impl Board {
     pub fn open(&self, slot: usize) -> Option<OpenJob<'_>>
         ensures { OpenAt self.now.tasks self.now.jobs slot result }
     {
-        let task = self.tasks.get(slot)?.as_ref()?;
-        let job = self.jobs.get(slot)?.as_ref()?;
-        Some(OpenJob { task, job })
+        open_in(&self.tasks, &self.jobs, slot)
     }
+}
+
+// The task of a slot and its open job, where there are both, in columns that need not be a board's.
+pub(crate) fn open_in<'a>(
+    tasks: &'a [Option<Task>; 16],
+    jobs: &'a [Option<Job>; 16],
+    slot: usize,
+) -> Option<OpenJob<'a>>
+    ensures { OpenAt tasks.now jobs.now slot result }
+{
+    let task = tasks.get(slot)?.as_ref()?;
+    let job = jobs.get(slot)?.as_ref()?;
+    Some(OpenJob { task, job })
 }

@@ -10,14 +10,14 @@ ghost use Rattle.dispatch.specs.Moves.{said, EndsFitly, Fits, RightInSlot, Suits
 ghost use Rattle.dispatch.specs.Spots.{spot_at, spot as spot_told};
 ghost use Rattle.dispatch.specs.Tables.{task_nodes, task_arcs};
 
-use crate::board::{Board, OpenJob};
+use crate::board::{Board, OpenJob, open_in};
 use crate::job::Job;
 use crate::outcome::Outcome;
 use crate::spot::{Spot, Spots};
 use jobs::node_state::NodeState;
 use sets::bit_set::BitSet;
 use table::records::{Node, Role};
-use task::branches_of;
+use task::{Task, branches_of};
 
 // Whether a node with this role and these branches may end with the branch.
 fn may_end(role: Role, branches: BitSet, branch: u8) -> bool
@@ -155,27 +155,72 @@ impl OpenJob<'_> {
     }
 }
 
-impl Board {
-    // Whether the outcome is right for what a core ran.
-    fn is_right(&self, spot: Option<Spot>, outcome: Outcome) -> bool
-        ensures { Says result (Suits self.now.tasks self.now.jobs spot (said outcome)) }
-    {
-        match spot {
-            None => matches!(outcome, Outcome::GoesOn),
-            Some(Spot { slot, node }) => self
-                .open(slot as usize)
-                .is_some_and(|open| open.is_right(node as usize, outcome)),
+// Whether the outcome is right for what a core ran.
+fn is_right(
+    tasks: &[Option<Task>; 16],
+    jobs: &[Option<Job>; 16],
+    spot: Option<Spot>,
+    outcome: Outcome,
+) -> bool
+    ensures { Says result (Suits tasks.now jobs.now spot (said outcome)) }
+{
+    match spot {
+        None => matches!(outcome, Outcome::GoesOn),
+        Some(Spot { slot, node }) => open_in(tasks, jobs, slot as usize)
+            .is_some_and(|open| open.is_right(node as usize, outcome)),
+    }
+}
+
+// The first core whose outcome is not right.
+pub fn first_wrong(
+    tasks: &[Option<Task>; 16],
+    jobs: &[Option<Job>; 16],
+    spots: &Spots,
+    outcomes: &[u8],
+) -> Option<usize>
+    ensures { Tried (RightOn tasks.now jobs.now spots.now outcomes.now) (length outcomes.now) result }
+{
+    (0..outcomes.len()).find(|&core| !is_right(
+        tasks,
+        jobs,
+        spot_on(spots, core),
+        Outcome::from(outcomes[core]),
+    ))
+}
+
+// Closes a tick whose outcomes are all right: moves the open jobs, lets those go that ended, and answers in which slots.
+pub fn close(
+    tasks: &[Option<Task>; 16],
+    jobs: &mut [Option<Job>; 16],
+    spots: &Spots,
+    outcomes: &[u8],
+) -> u16
+    requires { AllRight tasks.now jobs.old spots.now outcomes.now }
+    ensures { Closed tasks.now jobs.old spots.now outcomes.now result jobs.new }
+{
+    // a plain loop: each turn changes both the jobs and what is told
+    let mut ended = 0;
+    for slot in 0..16u8 {
+        let at = slot as usize;
+        if let Some(open) = open_in(tasks, jobs, at) {
+            match open.after(slot, spots, outcomes) {
+                Some(later) => jobs[at] = Some(later),
+                None => {
+                    jobs[at] = None;
+                    ended |= 1 << slot;
+                }
+            }
         }
     }
+    ended
+}
 
+impl Board {
     // The first core whose outcome is not right.
     pub fn first_wrong(&self, spots: &Spots, outcomes: &[u8]) -> Option<usize>
         ensures { Tried (RightOn self.now.tasks self.now.jobs spots.now outcomes.now) (length outcomes.now) result }
     {
-        (0..outcomes.len()).find(|&core| !self.is_right(
-            spot_on(spots, core),
-            Outcome::from(outcomes[core]),
-        ))
+        first_wrong(&self.tasks, &self.jobs, spots, outcomes)
     }
 
     // Closes a tick whose outcomes are all right: moves the open jobs, lets those go that ended, and answers in which slots.
@@ -184,21 +229,7 @@ impl Board {
         ensures tasks { self.new.tasks ≡ self.old.tasks }
         ensures closed { Closed self.old.tasks self.old.jobs spots.now outcomes.now result self.new.jobs }
     {
-        // a plain loop: each turn changes both the jobs and what is told
-        let mut ended = 0;
-        for slot in 0..16u8 {
-            let at = slot as usize;
-            if let Some(open) = self.open(at) {
-                match open.after(slot, spots, outcomes) {
-                    Some(later) => self.jobs[at] = Some(later),
-                    None => {
-                        self.jobs[at] = None;
-                        ended |= 1 << slot;
-                    }
-                }
-            }
-        }
-        ended
+        close(&self.tasks, &mut self.jobs, spots, outcomes)
     }
 
     // Closes a tick, or tells the first core whose outcome is not right, and then nothing has changed.

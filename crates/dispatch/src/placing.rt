@@ -5,9 +5,11 @@ ghost use Rattle.dispatch.specs.Placing.{Next, NoneMay, Placed};
 ghost use Rattle.dispatch.specs.Search.{RowHas, HasWaiting, NoneAhead, FirstAhead};
 ghost use Rattle.dispatch.specs.Tables.{row, ReadyIn, KeptIn, AheadIn, Places};
 
-use crate::board::Board;
+use crate::board::{Board, open_in};
+use crate::job::Job;
 use crate::spot::{Placing, Spot};
 use sets::bit_set::BitSet;
+use task::Task;
 
 // What is in both tables, slot by slot.
 fn common_rows(left: &[BitSet; 16], kept: &[BitSet; 16]) -> [BitSet; 16]
@@ -76,46 +78,62 @@ fn fill(ready: &[BitSet; 16], kept: &[BitSet; 16], ahead: &[BitSet; 16], cores: 
     Placing { spots, busy: cores }
 }
 
+// The ready nodes of the job that is open in a slot.
+fn ready_in(tasks: &[Option<Task>; 16], jobs: &[Option<Job>; 16], slot: usize) -> BitSet
+    requires { slot < 16 }
+    ensures { Marks (ReadyIn tasks.now jobs.now slot) result }
+{
+    open_in(tasks, jobs, slot).map_or(BitSet::EMPTY, |open| open.ready_nodes())
+}
+
+// The ready nodes by slot; by index, as are the two functions here, since that is what `from_fn` gives. What `kept_by_slot` differs in
+// is all that it says.
+fn ready_by_slot(tasks: &[Option<Task>; 16], jobs: &[Option<Job>; 16]) -> [BitSet; 16]
+    ensures { (s : ℕ) → s < 16 → Marks (ReadyIn tasks.now jobs.now s) (row result s) }
+{
+    std::array::from_fn(|slot| ready_in(tasks, jobs, slot))
+}
+
+// The nodes that the job in a slot had on a core in the tick closed last.
+fn kept_in(jobs: &[Option<Job>; 16], slot: usize) -> BitSet
+    requires { slot < 16 }
+    ensures { Marks (KeptIn jobs.now slot) result }
+{
+    jobs[slot].as_ref().map_or(BitSet::EMPTY, |job| job.placed)
+}
+
+// Those nodes by slot.
+fn kept_by_slot(jobs: &[Option<Job>; 16]) -> [BitSet; 16]
+    ensures { (s : ℕ) → s < 16 → Marks (KeptIn jobs.now s) (row result s) }
+{
+    std::array::from_fn(|slot| kept_in(jobs, slot))
+}
+
+// Places ready nodes on the cores. Row i of `ahead` has the slots whose jobs the job of slot i goes ahead of. It is for callers with
+// columns of their own too, which no board has to own.
+pub fn place(
+    tasks: &[Option<Task>; 16],
+    jobs: &[Option<Job>; 16],
+    ahead: &[BitSet; 16],
+    cores: u8,
+) -> Placing
+    requires { cores ≤ 16 }
+    ensures { Places tasks.now jobs.now ahead.now cores result.spots result.busy }
+{
+    fill(
+        &ready_by_slot(tasks, jobs),
+        &kept_by_slot(jobs),
+        ahead,
+        cores,
+    )
+}
+
 impl Board {
-    // The ready nodes of the job that is open in a slot.
-    fn ready_in(&self, slot: usize) -> BitSet
-        requires { slot < 16 }
-        ensures { Marks (ReadyIn self.now.tasks self.now.jobs slot) result }
-    {
-        self.open(slot)
-            .map_or(BitSet::EMPTY, |open| open.ready_nodes())
-    }
-
-    // The ready nodes by slot; by index, as are the two functions here, since that is what `from_fn` gives. What `kept` differs in is all
-    // that it says.
-    fn ready(&self) -> [BitSet; 16]
-        ensures { (s : ℕ) → s < 16 → Marks (ReadyIn self.now.tasks self.now.jobs s) (row result s) }
-    {
-        std::array::from_fn(|slot| self.ready_in(slot))
-    }
-
-    // The nodes that the job in a slot had on a core in the tick closed last.
-    fn kept_in(&self, slot: usize) -> BitSet
-        requires { slot < 16 }
-        ensures { Marks (KeptIn self.now.jobs slot) result }
-    {
-        self.jobs[slot]
-            .as_ref()
-            .map_or(BitSet::EMPTY, |job| job.placed)
-    }
-
-    // Those nodes by slot.
-    fn kept(&self) -> [BitSet; 16]
-        ensures { (s : ℕ) → s < 16 → Marks (KeptIn self.now.jobs s) (row result s) }
-    {
-        std::array::from_fn(|slot| self.kept_in(slot))
-    }
-
     // Places ready nodes on the cores. Row i of `ahead` has the slots whose jobs the job of slot i goes ahead of.
     pub fn place(&self, ahead: &[BitSet; 16], cores: u8) -> Placing
         requires { cores ≤ 16 }
         ensures { Places self.now.tasks self.now.jobs ahead.now cores result.spots result.busy }
     {
-        fill(&self.ready(), &self.kept(), ahead, cores)
+        place(&self.tasks, &self.jobs, ahead, cores)
     }
 }

@@ -8,8 +8,10 @@ ghost use Rattle.dispatch.specs.Search.{UnderWay, MayStart, Struck};
 ghost use Rattle.dispatch.specs.Tables.{task_nodes, task_arcs};
 
 use crate::board::OpenJob;
+use crate::job::Job;
 use sets::bit_set::BitSet;
 use table::records::{Arc, Role};
+use task::Task;
 
 // The nodes that are under way, and those of them that may start.
 #[derive(Clone, Copy, Drop)]
@@ -85,4 +87,11 @@ impl OpenJob<'_> {
         } = self.pending();
         strike(self.task.arcs(), under_way, may_start)
     }
+}
+
+// The nodes of a job of the task that are ready.
+pub fn ready_nodes(task: &Task, job: &Job) -> BitSet
+    ensures { Marks (Ready (task_nodes task.now) (task_arcs task.now) job.now.states) result }
+{
+    OpenJob { task, job }.ready_nodes()
 }

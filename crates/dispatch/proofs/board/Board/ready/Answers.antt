@@ -1,8 +1,0 @@
-use Rattle.std.proofs.Common.{rules}
-use Rattle.sets.specs.Sets.{Marks}
-use Rattle.dispatch.specs.Tables.{no_number, ReadyIn}
-use Rattle.dispatch.proofs.Rows.{made}
-use Rattle.dispatch.proofs.board.Board.ready.Goals as goal
-
-pub returns : goal.returns
-returns c = made (λ s r. Marks (ReadyIn c.args.self.now.tasks c.args.self.now.jobs s) r) no_number c.from_fn.result c.from_fn.ensures.items (λ s r q l k. search rules)
