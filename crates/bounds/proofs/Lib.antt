@@ -1,5 +1,6 @@
 pub mod Rounding
 pub mod Sums
+pub mod Sizes
 pub mod Sides
 pub mod Rising
 pub mod Untouched

@@ -1,5 +1,5 @@
 -- Quotients rounded up.
-use Rattle.std.proofs.Common.{◌≡◌, ℕ, zero, suc, ◌+◌, ◌-◌, ◌*◌, ◌/◌, ◌%◌, ◌<◌, ◌≤◌, min, sym, inl, inr, mod-lt, mul-le-mul_left, arith}
+use Rattle.std.proofs.Common.{◌≡◌, ℕ, zero, suc, ◌+◌, ◌-◌, ◌*◌, ◌/◌, ◌%◌, ◌<◌, ◌≤◌, min, sym, inl, inr, mul-le-mul_right, mod-lt, mul-le-mul_left, arith}
 use native.Mathlib.Nat.{div-eq_of_lt-le, div-add-mod}
 use Rattle.std.proofs.lemmas.Bool.{cases_lt}
 use Rattle.bounds.specs.Equation.{div_ceil}
@@ -27,3 +27,10 @@ up_is a b h = sym (div-eq_of_lt-le {k = a / b + min 1 (a % b)} b {m = a + (b - 1
     high : (q r : ℕ) → b * q + r ≡ a → r < b → a + (b - 1) < (q + min 1 r + 1) * b
     high q zero x y = omega arith
     high q (suc r) x y = let z : min 1 (suc r) ≡ 1 = omega arith in rw z (omega arith)
+
+pub up_small : (a b : ℕ) → 1 ≤ b → div_ceil a b ≤ a
+up_small a b h =
+    elim (cases_lt a (div_ceil a b)) [
+      | inr l ↦ l
+      | inl l ↦ absurd (omega (arith, mul-le-mul_left b l, mul-le-mul_right a h))
+    ]

@@ -10,3 +10,4 @@ pub mod Readies
 pub mod Rights
 pub mod Rows
 pub mod Ticks
+pub mod Writes

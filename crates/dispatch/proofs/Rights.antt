@@ -1,5 +1,6 @@
 -- Right outcomes, by the tables and by what a slot holds.
-use Rattle.std.proofs.Common.{◌≡◌, ℕ, zero, suc, Bool, false, List, Some, None, Option, refl, subst, arith}
+use Rattle.std.proofs.Common.{◌≡◌, ℕ, zero, suc, ◌≤◌, Bool, false, List, length, Some, None, Option, refl, subst, arith}
+use Rattle.std.proofs.lemmas.List.{get_or_past}
 use Rattle.jobs.specs.Job.{Outcome}
 use Rattle.sets.specs.Tests.{Says}
 use Rattle.sets.proofs.Says.{says_like, says_no}
@@ -12,6 +13,9 @@ use Rattle.dispatch.specs.Moves.{RightInSlot, Suits}
 use Rattle.dispatch.specs.Spots.{spot}
 use Rattle.dispatch.specs.Tables.{task_at, job_at, task_nodes, Holds, OpenAt}
 use Rattle.dispatch.proofs.Rows.{some_task, some_job}
+
+none_task : (a : Task) (x : Option Task) → x ≡ Some a → x ≡ None → ⊥
+none_task a x e f = let z : ◌≡◌ {A = ℕ} 0 1 = cc in omega arith
 
 module _ (tasks : List (Option Task)) (jobs : List (Option Job)) where
   -- an outcome is right at a slot just where it is right for the job that is open there
@@ -30,6 +34,10 @@ module _ (tasks : List (Option Task)) (jobs : List (Option Job)) where
         says_no r (clear refl) (λ h. none h.task h.job (record { its_task = h.its_task; its_job = h.its_job }))
     right_says (Some x) r holds clear found =
         says_like r (right_at x.task.now x.job.now holds) (right_there x.task.now x.job.now holds) (found x refl)
+
+    -- a slot past the tables holds nothing
+    pub past_wrong : length tasks ≤ p.slot → RightAt tasks jobs p o → ⊥
+    past_wrong l r = none_task r.task (task_at tasks p.slot) r.its_task (get_or_past tasks p.slot None l)
 
   -- a byte is right for what a core ran just where what it means is
   pub suits : (x : Option Spot) (byte : ℕ) → RightFor tasks jobs x byte → Suits tasks jobs x (meant byte)

@@ -7,11 +7,15 @@ use Rattle.sets.specs.declared.arc_set.ArcSet.{ArcSet}
 use Rattle.sets.specs.declared.bit_set.BitSet.{BitSet}
 use Rattle.sets.specs.Sets.{Has, HasArc, With}
 use Rattle.sets.proofs.Marked.{no_number, none_in_zero}
-use Rattle.task.specs.Graph.{from, to, IsNode, Joined}
+use Rattle.task.specs.Graph.{from, to, IsNode, Joined, Ranged}
 use Rattle.task.proofs.Lawful.{Sees}
 use Rattle.paths.specs.Paths.{Path, end, step, first, Chain, Leads, LeadsTo, Upwards, ChoiceOver, path_value}
 use Rattle.paths.specs.Walks.{SetOfArcs, Known, Walked}
 use Rattle.paths.proofs.Chosen.{chosen_like}
+
+-- a table's ranges make a graph that runs upwards
+pub ranged_upwards : (ns : List Node) (arcs : List Arc) → Ranged ns arcs → Upwards ns (Joined arcs)
+ranged_upwards ns arcs g = record { few_nodes = g.few_nodes; forward = g.arcs_forward; between_nodes = g.arcs_between_nodes }
 
 module _ (ns : List Node) (arcs : List Arc) (up : Upwards ns (Joined arcs)) where
   -- the ends of an arc are small enough for a set

@@ -21,6 +21,10 @@ pub length_texts : (ws : Slice) → length (texts ws) ≡ length ws
 length_texts [] = refl
 length_texts (w ∷ ws) = omega (arith, length_texts ws)
 
+pub spelled_0 : (ws : Slice) → length ws ≡ 0 → texts ws ≡ []
+spelled_0 [] e = refl
+spelled_0 (a ∷ ws) e = absurd (omega arith)
+
 pub spelled_1 : (ws : Slice) → length ws ≡ 1 → texts ws ≡ nth ws 0 ∷ []
 spelled_1 [] e = absurd (omega arith)
 spelled_1 (a ∷ []) e = refl
@@ -34,6 +38,10 @@ pub spelled_4 : (ws : Slice) → length ws ≡ 4 → texts ws ≡ nth ws 0 ∷ n
 spelled_4 [] e = absurd (omega arith)
 spelled_4 (a ∷ []) e = absurd (omega arith)
 spelled_4 (a ∷ b ∷ ws) e = ap (λ (l : List Word). a.now ∷ b.now ∷ l) (spelled_2 ws (omega arith))
+
+pub opened_1 : (ws : Slice) → 1 ≤ length ws → texts ws ≡ nth ws 0 ∷ behind ws 1
+opened_1 [] l = absurd (omega arith)
+opened_1 (a ∷ ws) l = ap (λ (v : Slice). a.now ∷ texts v) (sym (take_rest (a ∷ ws) 1))
 
 pub opened_2 : (ws : Slice) → 2 ≤ length ws → texts ws ≡ nth ws 0 ∷ nth ws 1 ∷ behind ws 2
 opened_2 [] l = absurd (omega arith)

@@ -1,11 +1,12 @@
 -- What follows from a task's shape.
-use Rattle.std.proofs.Common.{◌≡◌, ℕ, suc, List, subst, subst₂, arith}
+use Rattle.std.proofs.Common.{◌≡◌, ℕ, suc, ◌<◌, ◌⊎◌, List, sym, ◌∙◌, subst, subst₂, inl, inr, arith}
+use Rattle.std.proofs.lemmas.Bool.{cases_order}
 use Rattle.table.specs.declared.records.Arc.{Arc}
 use Rattle.table.specs.declared.records.Node.{Node}
 use Rattle.table.specs.declared.records.Region.{Region}
 use Rattle.table.specs.declared.records.Role.TheVariants.{Opening}
 use Rattle.sets.specs.Sets.{JustOne}
-use Rattle.task.specs.Graph.{role, region, IsNode, HomeOf, InRegion, HasBranch, ClosingOf, Joined, Entry, Exit, OfAKind, First, Last, Ranged}
+use Rattle.task.specs.Graph.{role, region, IsNode, HomeOf, InRegion, HasBranch, ClosingOf, ArcAt, Joined, Entry, Exit, OfAKind, First, Last, Ranged}
 use Rattle.task.specs.Shape.{HasEnds, Shaped}
 use Rattle.task.proofs.Mated.{opening_is_node}
 
@@ -14,11 +15,17 @@ module _ (ns : List Node) (arcs : List Arc) (shaped : Shaped ns arcs) where
   pub home_opens_lem : (v h : ℕ) → IsNode ns v → HomeOf ns v h → role ns h ≡ Opening
   home_opens_lem v h n i = shaped.homes_are_openings v n h i
 
+  pub home_is_node : (v h : ℕ) → IsNode ns v → HomeOf ns v h → IsNode ns h
+  home_is_node v h n i = opening_is_node ns h (home_opens_lem v h n i)
+
   pub mate_opens : (o c : ℕ) → ClosingOf ns o c → role ns o ≡ Opening
   mate_opens o c k = (shaped.mates_pair_up c k.is_node).mate_opens o k.closes
 
   pub one_closing : (o : ℕ) → role ns o ≡ Opening → JustOne (ClosingOf ns o)
   one_closing o e = ((shaped.mates_pair_up o (opening_is_node ns o e)).closed_once e).one_closing
+
+  pub same_closing : (o c d : ℕ) → ClosingOf ns o c → ClosingOf ns o d → c ≡ d
+  same_closing o c d k l = let one = one_closing o (mate_opens o c k) in one.no_other c k ∙ sym (one.no_other d l)
 
   pub closing_beside : (o c : ℕ) → ClosingOf ns o c → region ns c ≡ region ns o
   closing_beside o c k = let e = mate_opens o c k in ((shaped.mates_pair_up o (opening_is_node ns o e)).closed_once e).beside c k
@@ -33,6 +40,14 @@ module _ (ns : List Node) (arcs : List Arc) (shaped : Shaped ns arcs) where
   -- arcs
   pub arc_kind : (u v : ℕ) → Joined arcs u v → OfAKind ns u v
   arc_kind u v (k, a) = subst₂ (OfAKind ns) a.starts a.stops (shaped.arcs_are_lawful k a.is_arc).kind
+
+  pub arc_once : (u v j k : ℕ) → ArcAt arcs j u v → ArcAt arcs k u v → j ≡ k
+  arc_once u v j k a b = go (cases_order j k)
+    where
+      go : (j ≡ k) ⊎ ((j < k) ⊎ (k < j)) → j ≡ k
+      go (inl e) = e
+      go (inr (inl l)) = absurd ((shaped.arcs_are_lawful k b.is_arc).not_before j l (a.starts ∙ sym b.starts) (a.stops ∙ sym b.stops))
+      go (inr (inr l)) = absurd ((shaped.arcs_are_lawful j a.is_arc).not_before k l (b.starts ∙ sym a.starts) (b.stops ∙ sym a.stops))
 
   -- regions that have a node
   ends_of : (r : Region) (v : ℕ) → InRegion ns r v → HasEnds ns arcs r
