@@ -31,7 +31,7 @@ pub fn branches_of(nodes: &[Node], opening: usize) -> BitSet
 fn runs_from_zero(set: BitSet) -> bool
     ensures { Says result (RunsFromZero set) }
 {
-    set.has(0) && (0..63).all(|n| set.has(n) || !set.has(n + 1))
+    set.has(0) && (0..63).all(|n| !set.has(n + 1) || set.has(n))
 }
 
 impl Graph<'_> {

@@ -1,7 +1,8 @@
 // One first and one last: the ends of regions.
 ghost use Rattle.std.specs.Prelude.{length};
 ghost use Rattle.task.specs.Deciding.{MayMeet, MeetsOutside, Outermost, Within, OneOfEach};
-ghost use Rattle.task.specs.Graph.{IsNode, region as region_at};
+ghost use Rattle.task.specs.Gates.{GatesOf};
+ghost use Rattle.task.specs.Graph.{InRegion, region as region_at};
 ghost use Rattle.sets.specs.Sets.{JustOne, Marks};
 ghost use Rattle.task.specs.Shape.{HasEndsAt};
 ghost use Rattle.sets.specs.Tests.{Says, Tried};
@@ -9,6 +10,7 @@ ghost use Rattle.sets.specs.Tests.{Says, Tried};
 use crate::graph::Graph;
 use crate::kinds::ArcKind;
 use crate::reach::ArcEnd;
+use crate::wiring::Gates;
 use sets::bit_set::BitSet;
 use table::records::Region;
 
@@ -38,19 +40,28 @@ impl Graph<'_> {
         BitSet::select(self.nodes.len(), |v| self.meets_outside(end, met, v))
     }
 
-    // Whether a node is in the set and lies in the region. The two are asked of together in three functions that call one another.
-    fn is_within(&self, region: Region, set: BitSet, v: usize) -> bool
-        requires { IsNode self.now.nodes.now v }
-        ensures { Says result (Within self.now.nodes.now region set v) }
+    // Whether a number is that of a node in the region. The region is asked of together with a set in two functions that call one another.
+    fn is_in(&self, region: Region, v: usize) -> bool
+        ensures { Says result (InRegion self.now.nodes.now region v) }
     {
-        set.has(v) && self.region(v) == region
+        match self.nodes.get(v) {
+            Some(node) => node.region == region,
+            None => false,
+        }
     }
 
     // The nodes of a set that lie in the region.
     fn within(&self, region: Region, set: BitSet) -> BitSet
         ensures { Marks (Within self.now.nodes.now region set) result }
     {
-        BitSet::select(self.nodes.len(), |v| self.is_within(region, set, v))
+        // over the numbers of the set, where a selection goes over all nodes, for each node twice
+        let mut found = BitSet::EMPTY;
+        for v in set {
+            if self.is_in(region, v) {
+                found = found.with(v);
+            }
+        }
+        found
     }
 
     // Whether just one node of a set lies in the region.
@@ -68,11 +79,10 @@ impl Graph<'_> {
     }
 
     // The first node in whose region there is not just one first unit and just one last.
-    pub(crate) fn one_first_one_last(&self) -> Option<usize>
+    pub(crate) fn one_first_one_last(&self, gates: Gates) -> Option<usize>
+        requires { GatesOf self.now.nodes.now self.now.arcs.now gates }
         ensures { Tried (HasEndsAt self.now.nodes.now self.now.arcs.now) (length self.now.nodes.now) result }
     {
-        let firsts = self.outermost(ArcEnd::Stop);
-        let lasts = self.outermost(ArcEnd::Start);
-        (0..self.nodes.len()).find(|&v| !self.has_one_of_each(firsts, lasts, v))
+        (0..self.nodes.len()).find(|&v| !self.has_one_of_each(gates.firsts, gates.lasts, v))
     }
 }

@@ -15,8 +15,10 @@ impl Graph<'_> {
         Rule::MatesPairUp.kept(self.mates_pair_up())?;
         Rule::BranchesCountUp.kept(self.branches_count_up())?;
         Rule::ArcsAreLawful.kept(self.arcs_are_lawful())?;
-        Rule::OneFirstOneLast.kept(self.one_first_one_last())?;
-        Rule::BlocksAreWired.kept(self.blocks_are_wired())?;
+        // both rules that are left ask which nodes are first and last: that is found once
+        let gates = self.gates();
+        Rule::OneFirstOneLast.kept(self.one_first_one_last(gates))?;
+        Rule::BlocksAreWired.kept(self.blocks_are_wired(gates))?;
         Ok(())
     }
 }

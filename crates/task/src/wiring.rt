@@ -11,10 +11,10 @@ use sets::bit_set::BitSet;
 
 // The first nodes of regions and those that entry arcs run into; the last nodes and those that exit arcs run out of.
 #[derive(Clone, Copy, Debug, PartialEq, Eq, Drop)]
-struct Gates {
-    firsts: BitSet,
+pub(crate) struct Gates {
+    pub(crate) firsts: BitSet,
     entered: BitSet,
-    lasts: BitSet,
+    pub(crate) lasts: BitSet,
     left: BitSet,
 }
 
@@ -36,7 +36,7 @@ impl Gates {
 
 impl Graph<'_> {
     // The gates of a task.
-    fn gates(&self) -> Gates
+    pub(crate) fn gates(&self) -> Gates
         ensures { GatesOf self.now.nodes.now self.now.arcs.now result }
     {
         Gates {
@@ -59,11 +59,11 @@ impl Graph<'_> {
     }
 
     // The first node of a branch with an entry or an exit arc too few or too many.
-    pub(crate) fn blocks_are_wired(&self) -> Option<usize>
-        requires { AllHomesAreOpenings self.now.nodes.now × AllMatesPairUp self.now.nodes.now }
+    pub(crate) fn blocks_are_wired(&self, gates: Gates) -> Option<usize>
+        requires paired { AllHomesAreOpenings self.now.nodes.now × AllMatesPairUp self.now.nodes.now }
+        requires gates { GatesOf self.now.nodes.now self.now.arcs.now gates }
         ensures { Tried (Wired self.now.nodes.now self.now.arcs.now) (length self.now.nodes.now) result }
     {
-        let gates = self.gates();
         (0..self.nodes.len()).find(|&v| !self.is_gated(gates, v))
     }
 }

@@ -60,8 +60,8 @@ returns-in_err-kept-6 c =
     let p = err_from_is_err_and c.from_residual-in_err-kept-6.result c.from_residual-in_err-kept-6.ensures.1 in
     rw (p.1, p.2) (broken_first ns arcs BlocksAreWired c.blocks_are_wired.result c.in_err-kept-6.field-0.0 c.blocks_are_wired.ensures c.in_err-kept-6.ensures (after_ends ns arcs homes mates branches lawful ends))
 
-pub blocks_are_wired-requires : goal.blocks_are_wired-requires
-blocks_are_wired-requires c =
+pub blocks_are_wired-requires-clause-paired : goal.blocks_are_wired-requires-clause-paired
+blocks_are_wired-requires-clause-paired c =
     let ns = c.args.self.now.nodes.now in
     let arcs = c.args.self.now.arcs.now in (
       kept ns arcs HomesAreOpenings c.homes_are_openings.result c.homes_are_openings.ensures c.in_ok-kept.ensures,

@@ -9,10 +9,10 @@ pub returns : goal.returns
 returns c =
     let ns = c.args.self.now.nodes.now in
     let arcs = c.args.self.now.arcs.now in
-    let firsts = c.outermost-firsts.result in
-    let lasts = c.outermost-lasts.result in
-    let first = c.outermost-firsts.ensures in
-    let last = c.outermost-lasts.ensures in
+    let firsts = c.args.gates.firsts in
+    let lasts = c.args.gates.lasts in
+    let first = c.requires.firsts in
+    let last = c.requires.lasts in
     tried_like c.find.result (λ v l. ends_of_each ns arcs firsts lasts first last (region ns v))
     (λ v l. each_of_ends ns arcs firsts lasts first last (region ns v))
     (tried_by_test (λ (v : ℕ). OneOfEach ns firsts lasts (region ns v)) _ _ _ _ c.find.ensures.ran (λ x b q k. search rules))
