@@ -24,8 +24,11 @@ impl<O: Order + Drop> Controller<O> {
         ensures opened { elim result [ Ok c ↦ (c.order ≡ order) × Opened cores c.tables | Err e ↦ (e ≡ Cores) × (1 ≤ cores → cores ≤ 16 → ⊥) ] }
         ensures begins { elim result [ Ok c ↦ History (O.Order.means order) [] c.tables | Err e ↦ Unit {0} ] }
     {
-        let tables = Tables::new(cores).ok_or(Refusal::Cores)?;
-        Ok(Controller { order, tables })
+        // a match: `ok_or` and `?` would move the tables, which are large, once each
+        match Tables::new(cores) {
+            Some(tables) => Ok(Controller { order, tables }),
+            None => Err(Refusal::Cores),
+        }
     }
 }
 

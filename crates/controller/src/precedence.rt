@@ -37,7 +37,12 @@ fn entrant_of(board: &Board, slot: Slot) -> Option<Entrant>
 fn entrants_of(board: &Board) -> [Option<Entrant>; 16]
     ensures { EntrantsAre board.now.tasks board.now.jobs result }
 {
-    Slot::map_all(|slot| entrant_of(board, slot))
+    // filled in place, as are the rows of `precedence`: an array from `map_all` is cleared first, and moved at each return
+    let mut found = [None; 16];
+    for slot in 0..16 {
+        found[slot] = entrant_of(board, Slot::at(slot));
+    }
+    found
 }
 
 // Whether the first job goes ahead of the other: it was released as many ticks after it as it is younger.
@@ -76,5 +81,9 @@ pub(crate) fn precedence<O: Order>(order: &O, board: &Board) -> [BitSet; 16]
     ensures { Precedence (O.Order.means order.now) board.now.tasks board.now.jobs result }
 {
     let entrants = entrants_of(board);
-    Slot::map_all(|slot| slots_behind(order, &entrants, slot))
+    let mut rows = [BitSet::EMPTY; 16];
+    for slot in 0..16 {
+        rows[slot] = slots_behind(order, &entrants, Slot::at(slot));
+    }
+    rows
 }

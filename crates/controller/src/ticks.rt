@@ -32,7 +32,10 @@ fn wait_longer(waited: Option<u32>) -> Option<u32>
 fn wait_a_tick(waited: &mut [Option<u32>; 16])
     ensures { waited.new ≡ map one_more waited.old }
 {
-    *waited = waited.map(wait_longer);
+    // in place, and by index: the library's `map` of an array first moves all 16 into options
+    for slot in 0..16 {
+        waited[slot] = wait_longer(waited[slot]);
+    }
 }
 
 impl Tables {

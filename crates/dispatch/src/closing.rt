@@ -166,8 +166,9 @@ fn is_right(
 {
     match spot {
         None => matches!(outcome, Outcome::GoesOn),
-        Some(Spot { slot, node }) => open_in(tasks, jobs, slot as usize)
-            .is_some_and(|open| open.is_right(node as usize, outcome)),
+        Some(Spot { slot, node }) => open_in(tasks, jobs, slot as usize).is_some_and(
+            |open| open.is_right(node as usize, outcome),
+        ),
     }
 }
 

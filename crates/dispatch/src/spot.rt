@@ -43,6 +43,8 @@ pub fn write_spots(spots: &Spots, cores: u8, list: &mut [u16])
     requires { (cores ≤ 16) × (cores ≤ length list.old) }
     ensures { Written spots.now cores list.old list.new }
 {
-    let cores = usize::from(cores);
-    list[..cores].copy_from_slice(&spots.map(told)[..cores]);
+    // in place, and by index: the library's `map` of an array first moves all 16 into options
+    for core in 0..usize::from(cores) {
+        list[core] = told(spots[core]);
+    }
 }

@@ -1,6 +1,6 @@
-use Rattle.std.proofs.Common.{rules}
+use Rattle.std.proofs.Common.{refl}
 use Rattle.controller.specs.Does.{opened}
 use Rattle.controller.proofs.controller.Controller.open.Goals as goal
 
-pub returns-clause-begins : goal.returns-clause-begins
-returns-clause-begins g c = opened c.args.cores (search rules)
+pub returns-in-Some : goal.returns-in-Some
+returns-in-Some g c = record { opened = (refl, c.in-Some.ensures); begins = opened c.args.cores c.in-Some.ensures }
