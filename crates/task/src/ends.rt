@@ -1,7 +1,6 @@
 // One first and one last: the ends of regions.
 ghost use Rattle.std.specs.Prelude.{length};
-ghost use Rattle.task.specs.Deciding.{MayMeet, MeetsOutside, Outermost, Within, OneOfEach};
-ghost use Rattle.task.specs.Gates.{GatesOf};
+ghost use Rattle.task.specs.Deciding.{MayMeet, MeetsOutside, Outermost, FirstNode, LastNode, Within, OneOfEach};
 ghost use Rattle.task.specs.Graph.{InRegion, region as region_at};
 ghost use Rattle.sets.specs.Sets.{JustOne, Marks};
 ghost use Rattle.task.specs.Shape.{HasEndsAt};
@@ -10,7 +9,6 @@ ghost use Rattle.sets.specs.Tests.{Says, Tried};
 use crate::graph::Graph;
 use crate::kinds::ArcKind;
 use crate::reach::ArcEnd;
-use crate::wiring::Gates;
 use sets::bit_set::BitSet;
 use table::records::Region;
 
@@ -44,6 +42,7 @@ impl Graph<'_> {
     fn is_in(&self, region: Region, v: usize) -> bool
         ensures { Says result (InRegion self.now.nodes.now region v) }
     {
+        // a match: what a closure answers here, a proof knows only by a clause of the closure's own
         match self.nodes.get(v) {
             Some(node) => node.region == region,
             None => false,
@@ -79,10 +78,11 @@ impl Graph<'_> {
     }
 
     // The first node in whose region there is not just one first unit and just one last.
-    pub(crate) fn one_first_one_last(&self, gates: Gates) -> Option<usize>
-        requires { GatesOf self.now.nodes.now self.now.arcs.now gates }
+    pub(crate) fn one_first_one_last(&self, firsts: BitSet, lasts: BitSet) -> Option<usize>
+        requires firsts { Marks (FirstNode self.now.nodes.now self.now.arcs.now) firsts }
+        requires lasts { Marks (LastNode self.now.nodes.now self.now.arcs.now) lasts }
         ensures { Tried (HasEndsAt self.now.nodes.now self.now.arcs.now) (length self.now.nodes.now) result }
     {
-        (0..self.nodes.len()).find(|&v| !self.has_one_of_each(gates.firsts, gates.lasts, v))
+        (0..self.nodes.len()).find(|&v| !self.has_one_of_each(firsts, lasts, v))
     }
 }

@@ -4,6 +4,7 @@ ghost use Rattle.task.specs.Rules.{BrokenAt};
 ghost use Rattle.task.specs.Shape.{Shaped};
 
 use crate::graph::Graph;
+use crate::reach::ArcEnd;
 use crate::rules::{Broken, Rule};
 
 impl Graph<'_> {
@@ -16,9 +17,10 @@ impl Graph<'_> {
         Rule::BranchesCountUp.kept(self.branches_count_up())?;
         Rule::ArcsAreLawful.kept(self.arcs_are_lawful())?;
         // both rules that are left ask which nodes are first and last: that is found once
-        let gates = self.gates();
-        Rule::OneFirstOneLast.kept(self.one_first_one_last(gates))?;
-        Rule::BlocksAreWired.kept(self.blocks_are_wired(gates))?;
+        let firsts = self.outermost(ArcEnd::Stop);
+        let lasts = self.outermost(ArcEnd::Start);
+        Rule::OneFirstOneLast.kept(self.one_first_one_last(firsts, lasts))?;
+        Rule::BlocksAreWired.kept(self.blocks_are_wired(firsts, lasts))?;
         Ok(())
     }
 }

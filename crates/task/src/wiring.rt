@@ -1,5 +1,7 @@
 // Blocks are wired.
 ghost use Rattle.std.specs.Prelude.{length};
+ghost use Rattle.sets.specs.Sets.{Marks};
+ghost use Rattle.task.specs.Deciding.{FirstNode, LastNode};
 ghost use Rattle.task.specs.Gates.{Agree, GatesOf, Gated};
 ghost use Rattle.task.specs.Shape.{AllHomesAreOpenings, AllMatesPairUp, Wired};
 ghost use Rattle.sets.specs.Tests.{Says, Tried};
@@ -11,10 +13,10 @@ use sets::bit_set::BitSet;
 
 // The first nodes of regions and those that entry arcs run into; the last nodes and those that exit arcs run out of.
 #[derive(Clone, Copy, Debug, PartialEq, Eq, Drop)]
-pub(crate) struct Gates {
-    pub(crate) firsts: BitSet,
+struct Gates {
+    firsts: BitSet,
     entered: BitSet,
-    pub(crate) lasts: BitSet,
+    lasts: BitSet,
     left: BitSet,
 }
 
@@ -35,14 +37,16 @@ impl Gates {
 }
 
 impl Graph<'_> {
-    // The gates of a task.
-    pub(crate) fn gates(&self) -> Gates
+    // The gates of a task, from its first and its last nodes.
+    fn gates(&self, firsts: BitSet, lasts: BitSet) -> Gates
+        requires firsts { Marks (FirstNode self.now.nodes.now self.now.arcs.now) firsts }
+        requires lasts { Marks (LastNode self.now.nodes.now self.now.arcs.now) lasts }
         ensures { GatesOf self.now.nodes.now self.now.arcs.now result }
     {
         Gates {
-            firsts: self.outermost(ArcEnd::Stop),
+            firsts,
             entered: self.met_by(ArcKind::Entry, ArcEnd::Stop),
-            lasts: self.outermost(ArcEnd::Start),
+            lasts,
             left: self.met_by(ArcKind::Exit, ArcEnd::Start),
         }
     }
@@ -59,11 +63,13 @@ impl Graph<'_> {
     }
 
     // The first node of a branch with an entry or an exit arc too few or too many.
-    pub(crate) fn blocks_are_wired(&self, gates: Gates) -> Option<usize>
+    pub(crate) fn blocks_are_wired(&self, firsts: BitSet, lasts: BitSet) -> Option<usize>
         requires paired { AllHomesAreOpenings self.now.nodes.now × AllMatesPairUp self.now.nodes.now }
-        requires gates { GatesOf self.now.nodes.now self.now.arcs.now gates }
+        requires firsts { Marks (FirstNode self.now.nodes.now self.now.arcs.now) firsts }
+        requires lasts { Marks (LastNode self.now.nodes.now self.now.arcs.now) lasts }
         ensures { Tried (Wired self.now.nodes.now self.now.arcs.now) (length self.now.nodes.now) result }
     {
+        let gates = self.gates(firsts, lasts);
         (0..self.nodes.len()).find(|&v| !self.is_gated(gates, v))
     }
 }

@@ -9,8 +9,8 @@ pub returns : goal.returns
 returns c =
     let ns = c.args.self.now.nodes.now in
     let arcs = c.args.self.now.arcs.now in
-    let firsts = c.args.gates.firsts in
-    let lasts = c.args.gates.lasts in
+    let firsts = c.args.firsts in
+    let lasts = c.args.lasts in
     let first = c.requires.firsts in
     let last = c.requires.lasts in
     tried_like c.find.result (λ v l. ends_of_each ns arcs firsts lasts first last (region ns v))
